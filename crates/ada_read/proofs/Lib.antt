@@ -1,0 +1,17 @@
+pub mod Additions
+pub mod Bytes
+pub mod Cuts
+pub mod Falls
+pub mod Forms
+pub mod Lexing
+pub mod Meeting
+pub mod Reading
+pub mod ReadingOn
+pub mod Remainders
+pub mod Spelling
+pub mod Spellings
+pub mod Steps
+pub mod Units
+pub mod Values
+pub mod Whole
+pub mod Words

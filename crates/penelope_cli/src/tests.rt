@@ -1,0 +1,355 @@
+// Whole runs over a shelf and a sink in memory.
+ghost use Rattle.std.specs.Prelude.{◌≡◌, ◌<◌};
+
+use crate::top::penelope;
+use base_kit::{Memory, Steps, Tally};
+use outside::{MemShelf, MemSink};
+use std::alloc::Global;
+use std::marker::Brand;
+use std::sync::ledger::{Blank, Ledger};
+use std::test::Fail;
+
+const USAGE: &str =
+    "usage: penelope check FILES | print FILES | edit FILES --script FILE | grow N\n";
+
+const NOT_OF_THE_FORM: &str = "fault F23 file 1 line 1\n";
+
+const SET: &str = "procedure SET (X, Y : in out INTEGER)
+--| where in Y = 3; out X = 3; out Y = in Y; end where;
+is begin X := Y; end SET;
+";
+
+const SET_REPORT: &str = "unit SET incomplete
+  entry.1 open
+    var X : INTEGER
+    var Y : INTEGER
+    hyp 1 : Y = 3
+    goal (Y = 3) and (Y = Y)
+";
+
+// What fails: calls of the shelf, and writes; and how much the sink takes.
+#[derive(Clone, Copy)]
+struct Failing {
+    call: u64,
+    write: u64,
+    room: usize,
+    most: usize,
+}
+
+const NOTHING: Failing = Failing {
+    call: 0,
+    write: 0,
+    room: 100_000,
+    most: 100_000,
+};
+
+// What a run wrote, how often it called the shelf, and its status.
+#[derive(Drop)]
+struct Outcome {
+    text: Vec<u8>,
+    calls: u64,
+    faults: u64,
+    status: u8,
+}
+
+// A run over one file, named a.
+fn run_over<P: Ledger>(
+    alloc: Global,
+    blank: Blank,
+    words: &[String],
+    file: &[u8],
+    failing: &Failing,
+) -> Result<Outcome, Memory>
+    requires name { blank.name ≡ P.name }
+    requires parts { blank.parts ≡ P.parts }
+    requires some { 0 < blank.parts }
+{
+    let mut shelf = MemShelf::new(alloc, vec![in alloc; failing.call]?);
+    shelf.add(alloc, "a", file)?;
+    let writes = vec![in alloc; failing.write]?;
+    let mut out = MemSink::new(alloc, failing.room, failing.most, writes)?;
+    let mut steps = Steps::new(Tally::<P>::new(blank));
+    let status = penelope(alloc, words, &mut shelf, &mut out, &mut steps);
+    Ok(Outcome {
+        text: out.written().to_vec(alloc)?,
+        calls: shelf.calls(),
+        faults: out.faults(),
+        status,
+    })
+}
+
+// The same, by words with blanks between them.
+fn run(alloc: Global, words: &str, file: &[u8], failing: &Failing) -> Result<Outcome, Memory> {
+    let mut owned = Vec::new(alloc);
+    for word in words.split(' ') {
+        owned.push(String::from_str(alloc, word)?)?;
+    }
+    run_over::<Brand>(alloc, Blank::new(1), owned.as_slice(), file, failing)
+}
+
+#[test]
+fn words_outside_the_forms_are_usage(rt: HostRuntime) -> Result<(), Fail> {
+    for words in [
+        "",
+        "check",
+        "foo",
+        "help",
+        "--help",
+        "-h",
+        "check -x",
+        "check a a",
+        "check a b",
+        "check -- a",
+        "check  ",
+        "CHECK a",
+        "print a",
+        "edit a --script a",
+        "grow 0",
+        "grow 2",
+    ] {
+        let got = run(rt.alloc(), words, b"", &NOTHING)?;
+        assert_eq!(rt; got.text.as_slice(), USAGE.as_bytes(), "{words}");
+        assert_eq!(rt; got.status, 2, "{words}");
+        assert_eq!(rt; got.calls, 0, "{words}");
+    }
+    Ok(())
+}
+
+#[test]
+fn files_are_reported(rt: HostRuntime) -> Result<(), Fail> {
+    for (file, text, status) in [
+        ("", "", 0),
+        ("\t\r\n -- a comment\n--|\n", "", 0),
+        (SET, SET_REPORT, 0),
+        // Without a where block the goal is true.
+        (
+            "procedure SET (X, Y : in out INTEGER)\n\nis begin X := Y; end SET;\n",
+            "unit SET incomplete\n  entry.1 open\n    var X : INTEGER\n    var Y : INTEGER\n    goal true\n",
+            0,
+        ),
+        // An annotation over many lines, with comments between, in mixed case, in lines that end by CR LF.
+        (
+            "Procedure Set(x:In Out Integer;Y:in out integer)--|Where\r\n--| in y = -- so\r\n-- and\r\n--| 0_0_3;out x=3;--|no\r\n--|out Y = in Y\r\n--|;end where;\r\nIs Begin x:=y;End;",
+            SET_REPORT,
+            0,
+        ),
+        // Assignments go in order; a conjunction associates to the left.
+        (
+            "procedure P (X, Y : in out INTEGER)\n--| where out X = in Y; out Y = in Y; out in X = 2147483647; end where;\nis begin null; X := Y; Y := X; end;",
+            "unit P incomplete\n  entry.1 open\n    var X : INTEGER\n    var Y : INTEGER\n    goal ((Y = Y) and (Y = Y)) and (X = 2147483647)\n",
+            0,
+        ),
+        // In Ada text `where` is an identifier; an in clause speaks of the entry.
+        (
+            "procedure P (WHERE, X : in out INTEGER)\n--| where in X = X; end where;\nis begin WHERE := 007; X := WHERE; end P;",
+            "unit P incomplete\n  entry.1 open\n    var WHERE : INTEGER\n    var X : INTEGER\n    hyp 1 : X = X\n    goal true\n",
+            0,
+        ),
+    ] {
+        let got = run(rt.alloc(), "check a", file.as_bytes(), &NOTHING)?;
+        assert_eq!(rt; got.text.as_slice(), text.as_bytes(), "{file}");
+        assert_eq!(rt; got.status, status, "{file}");
+        assert_eq!(rt; got.calls, 1, "{file}");
+    }
+    Ok(())
+}
+
+#[test]
+fn other_files_are_faults(rt: HostRuntime) -> Result<(), Fail> {
+    for file in [
+        "procedure SET (X, Y : in out INTEGER)\n--| where in Y = 3; out X = 3; out Y = in Y; end where;\nis begin X := Z; end SET;\n",
+        "procedure SET (X, Y : in out INTEGER)\n--| where in Y = 3; out X = 3; out Y = in Y; end where;\nis begin X := Y + 1; end SET;\n",
+        "procedure SET (X, Y : in out INTEGER)\n--| where in Y = 3; out X = 3; out Y = in Y; end where;\nis begin",
+        "procedure P (X, X : in out INTEGER) is begin null; end;",
+        "procedure P (X : in out INTEGER; x : in out INTEGER) is begin null; end;",
+        "procedure P (INTEGER : in out INTEGER) is begin null; end;",
+        "procedure P (X : in out NATURAL) is begin null; end;",
+        "procedure P (X : in INTEGER) is begin null; end;",
+        "procedure P (X : in out INTEGER) is begin Y := 1; end;",
+        "procedure P (X : in out INTEGER) is begin end;",
+        "procedure P (X : in out INTEGER) is begin null; end Q;",
+        "procedure P (X : in out INTEGER) is begin null; end; null",
+        "procedure P (X : in out INTEGER) is begin X := 2147483648; end;",
+        "procedure P (X : in out INTEGER) is begin X := 0000000000000000001; end;",
+        "procedure P (X : in out INTEGER) is begin X := 1__0; end;",
+        "procedure P (X : in out INTEGER) is begin X := 1_; end;",
+        "procedure P (X : in out INTEGER) is begin X : = 1; end;",
+        "procedure P (X_ : in out INTEGER) is begin null; end;",
+        "procedure P (_X : in out INTEGER) is begin null; end;",
+        "procedure P (LOOP : in out INTEGER) is begin null; end;",
+        "procedure P () is begin null; end;",
+        "procedure P (X : in out INTEGER) where end where; is begin null; end;",
+        "procedure P (X : in out INTEGER)\n--| is begin null; end;",
+        "procedure P (X : in out INTEGER)\n--| where in in X = 1; end where;\nis begin null; end;",
+        "procedure P (X : in out INTEGER)\n--| where out X == 1; end where;\nis begin null; end;",
+        "procedure P (X : in out INTEGER)\n--| where out X = Y; end where;\nis begin null; end;",
+        "procedure P (X : in out INTEGER)\n--| where out X = 1; end;\nis begin null; end;",
+        "procedure P (X : in out INTEGER) is begin null; end;\n--| where end where;",
+        "\u{1}",
+        "#",
+        "-",
+    ] {
+        let got = run(rt.alloc(), "check a", file.as_bytes(), &NOTHING)?;
+        assert_eq!(rt; got.text.as_slice(), NOT_OF_THE_FORM.as_bytes(), "{file}");
+        assert_eq!(rt; got.status, 3, "{file}");
+    }
+    Ok(())
+}
+
+#[test]
+fn failures_cut_the_output_short(rt: HostRuntime) -> Result<(), Fail> {
+    for (words, file, failing, text, status) in [
+        ("check b", SET, NOTHING, "absent b\n", 4),
+        (
+            "check a",
+            SET,
+            Failing { call: 1, ..NOTHING },
+            "failed a\n",
+            4,
+        ),
+        (
+            "check a",
+            SET,
+            Failing { most: 1, ..NOTHING },
+            SET_REPORT,
+            0,
+        ),
+        (
+            "check a",
+            SET,
+            Failing {
+                room: 4096,
+                most: 8,
+                ..NOTHING
+            },
+            SET_REPORT,
+            0,
+        ),
+        (
+            "check a",
+            SET,
+            Failing {
+                room: 4096,
+                write: 1,
+                most: 8,
+                ..NOTHING
+            },
+            "",
+            5,
+        ),
+        (
+            "check a",
+            SET,
+            Failing {
+                room: 4096,
+                write: 2,
+                most: 8,
+                ..NOTHING
+            },
+            "unit SET",
+            5,
+        ),
+        (
+            "check a",
+            SET,
+            Failing {
+                room: 10,
+                ..NOTHING
+            },
+            "unit SET i",
+            5,
+        ),
+        ("check a", SET, Failing { room: 0, ..NOTHING }, "", 5),
+        ("check a", "", Failing { room: 0, ..NOTHING }, "", 0),
+        (
+            "check b",
+            SET,
+            Failing {
+                write: 1,
+                ..NOTHING
+            },
+            "",
+            5,
+        ),
+        (
+            "check b",
+            SET,
+            Failing {
+                write: 2,
+                ..NOTHING
+            },
+            "absent ",
+            5,
+        ),
+        ("help", SET, Failing { room: 6, ..NOTHING }, "usage:", 5),
+    ] {
+        let got = run(rt.alloc(), words, file.as_bytes(), &failing)?;
+        assert_eq!(rt; got.text.as_slice(), text.as_bytes(), "{words}: {text}");
+        assert_eq!(rt; got.status, status, "{words}: {text}");
+        assert_eq!(rt; got.faults > 0, status == 5, "{words}: {text}");
+    }
+    Ok(())
+}
+
+#[test]
+fn a_file_has_its_limit(rt: HostRuntime) -> Result<(), Fail> {
+    let mut file = vec![in rt.alloc(); b' '; 4_194_304]?;
+    let got = run(rt.alloc(), "check a", file.as_slice(), &NOTHING)?;
+    assert_eq!(rt; (got.text.len(), got.status), (0, 0));
+    file.push(b' ')?;
+    let got = run(rt.alloc(), "check a", file.as_slice(), &NOTHING)?;
+    assert_eq!(rt; got.text.as_slice(), b"too long a\n".as_slice());
+    assert_eq!(rt; got.status, 3);
+    Ok(())
+}
+
+// A procedure with so many formals, clauses and statements.
+fn large(alloc: Global, formals: u32, clauses: u32, statements: u32) -> Result<String, Memory> {
+    let mut text = String::from_str(alloc, "procedure P (F0")?;
+    for i in 1..formals {
+        text.push_str(format!(in alloc; ", F{i}")?.as_str())?;
+    }
+    text.push_str(" : in out INTEGER)\n--| where")?;
+    for i in 0..clauses {
+        text.push_str(format!(in alloc; "\n--|    out F0 = {i};")?.as_str())?;
+    }
+    text.push_str("\n--| end where;\nis begin")?;
+    for i in 0..statements {
+        text.push_str(format!(in alloc; " F0 := {i};")?.as_str())?;
+    }
+    text.push_str(" end P;")?;
+    Ok(text)
+}
+
+#[test]
+fn counts_have_their_limits(rt: HostRuntime) -> Result<(), Fail> {
+    for (formals, clauses, statements, status) in [
+        (64, 64, 1000, 0),
+        (65, 64, 1000, 3),
+        (64, 65, 1000, 3),
+        (64, 64, 1001, 3),
+        (1, 0, 1, 0),
+    ] {
+        let file = large(rt.alloc(), formals, clauses, statements)?;
+        let got = run(rt.alloc(), "check a", file.as_bytes(), &NOTHING)?;
+        assert_eq!(rt; got.status, status, "{formals} {clauses} {statements}");
+    }
+    let file = large(rt.alloc(), 64, 64, 1000)?;
+    let got = run(rt.alloc(), "check a", file.as_bytes(), &NOTHING)?;
+    assert!(rt; got.text.ends_with(b") and (999 = 63)\n"));
+    Ok(())
+}
+
+#[test]
+fn identifiers_have_their_limit(rt: HostRuntime) -> Result<(), Fail> {
+    for (length, status) in [(120, 0), (121, 3)] {
+        let mut file = String::from_str(rt.alloc(), "procedure P (")?;
+        for _ in 0..length {
+            file.push_str("A")?;
+        }
+        file.push_str(" : in out INTEGER) is begin null; end;")?;
+        let got = run(rt.alloc(), "check a", file.as_bytes(), &NOTHING)?;
+        assert_eq!(rt; got.status, status);
+    }
+    Ok(())
+}
