@@ -16,7 +16,7 @@ use Rattle.ada_read.proofs.Falls.{Falls, falls}
 use Rattle.ada_read.proofs.Spellings.{cut_spelled}
 
 -- the tokens of a text are those after its cut, and the cut's own
-tokens_at_cut : (note : Bool) (bytes : List ℕ) (cut : Cut) → cut_at note bytes ≡ Some cut → tokens_from 0 note bytes ≡ option_map (with_symbol cut.symbol note) (tokens_from 0 cut.note (drop cut.length bytes))
+pub tokens_at_cut : (note : Bool) (bytes : List ℕ) (cut : Cut) → cut_at note bytes ≡ Some cut → tokens_from 0 note bytes ≡ option_map (with_symbol cut.symbol note) (tokens_from 0 cut.note (drop cut.length bytes))
 tokens_at_cut note [] cut e = cc
 tokens_at_cut note (b ∷ rest) cut e =
     let within = cut_within note (b ∷ rest) cut e in

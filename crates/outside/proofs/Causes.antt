@@ -1,5 +1,5 @@
 -- Which statuses a plan can come to, and why.
-use Rattle.std.proofs.Common.{◌≡◌, ◌≢◌, ℕ, List, [], ◌∷◌, ◌++◌, Bool, true, false, cond, refl, sym, ◌∙◌, ap, subst, ◌⊎◌, inl, inr}
+use Rattle.std.proofs.Common.{◌≡◌, ◌≢◌, ℕ, List, [], ◌∷◌, Bool, true, false, cond, refl, sym, subst, ◌⊎◌, inl, inr}
 use Rattle.outside.specs.declared.status.Status.{Status}
 use Rattle.outside.specs.declared.status.Status.TheVariants.{ShelfFailed, SinkFailed, NoMemory}
 use Rattle.outside.specs.Meaning.{ShelfState, SinkState, Rose}
@@ -45,11 +45,12 @@ never_answers n plan s s' k k' shelf sink memory a r =
     let is : r.left ≡ finish n = r.stops.done sink memory in
     subst (λ (z : Plan). Avoids n z) is (still_avoids r.events n plan r.left shelf a r.leads) refl
 
-first_no : (x y : Bool) → cond x true y ≡ false → x ≡ false
+-- neither of two is true
+pub first_no : (x y : Bool) → cond x true y ≡ false → x ≡ false
 first_no true y e = cc
 first_no false y e = refl
 
-second_no : (x y : Bool) → cond x true y ≡ false → y ≡ false
+pub second_no : (x y : Bool) → cond x true y ≡ false → y ≡ false
 second_no true y e = cc
 second_no false y e = e
 

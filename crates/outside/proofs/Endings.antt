@@ -1,10 +1,10 @@
 -- How the output ends: at a call that failed or found no file, or cut short.
-use Rattle.std.proofs.Common.{◌≡◌, ◌≢◌, ℕ, List, [], ◌∷◌, ◌++◌, Bool, true, false, cond, refl, sym, ◌∙◌, ap, subst}
-use Rattle.std.specs.Prelude.{Option, Some, None}
+use Rattle.std.proofs.Common.{◌≡◌, ℕ, List, [], ◌∷◌, ◌++◌, Bool, true, false, cond, refl, ◌∙◌, ap}
+use Rattle.std.specs.Prelude.{Option}
 use Rattle.outside.specs.declared.status.Status.{Status}
 use Rattle.outside.specs.declared.status.Status.TheVariants.{ShelfFailed, SinkFailed}
 use Rattle.outside.specs.Meaning.{Files, with_file, ShelfState, SinkState, IsProperPrefix}
-use Rattle.outside.specs.Plan.{Plan, finish, say, fetch, store, Event, wrote, got, stored, get_failed, put_failed, Reply, held, missing, too_long, is_missing, wrote_all, bytes_of, say_all, failed_line, absent_line, reply_of}
+use Rattle.outside.specs.Plan.{Plan, finish, say, fetch, store, Event, got, stored, get_failed, put_failed, Reply, held, missing, too_long, is_missing, wrote_all, bytes_of, say_all, failed_line, absent_line, reply_of}
 use Rattle.outside.specs.Output.{output_of, status_of, fails_now, after_call, IsOutput, EndsAtCall, IsPrefix}
 use Rattle.outside.proofs.Causes.{Reports}
 use Rattle.outside.proofs.Events.{bytes_of-append}

@@ -1,6 +1,7 @@
 -- The first byte that a run writes, which tells a line of one kind from all others.
-use Rattle.std.proofs.Common.{◌≡◌, ◌≢◌, ℕ, List, [], ◌∷◌, ◌++◌, Bool, true, false, cond, refl, sym, ◌∙◌, ap, subst}
+use Rattle.std.proofs.Common.{◌≡◌, ◌≢◌, ℕ, List, [], ◌∷◌, false, subst}
 use Rattle.outside.specs.Plan.{Plan, finish, say, fetch, store, Event, wrote, got, stored, get_failed, put_failed, Reply, is_too_long, Leads, has_reply, bytes_of, failed_at}
+use Rattle.outside.proofs.Causes.{first_no, second_no}
 
 -- where no file is too long, the plan's first byte isn't this one
 abbrev pub BeginsApart : ℕ → Plan → Type 0
@@ -13,14 +14,6 @@ BeginsApart first (store name bytes next) = BeginsApart first next
 abbrev pub HeadApart : ℕ → List ℕ → Type 0
 HeadApart first [] = Unit {0}
 HeadApart first (b ∷ bytes) = b ≢ first
-
-first_no : (x y : Bool) → cond x true y ≡ false → x ≡ false
-first_no true y e = cc
-first_no false y e = refl
-
-second_no : (x y : Bool) → cond x true y ≡ false → y ≡ false
-second_no true y e = cc
-second_no false y e = e
 
 -- the line of a get or put that failed begins with an f
 failed_apart : (first : ℕ) (name : List ℕ) → 102 ≢ first → BeginsApart first (failed_at name)

@@ -1,11 +1,11 @@
 -- A run by a plan over files that the shelf tells is the plan's output over these files.
-use Rattle.std.proofs.Common.{◌≡◌, ◌≢◌, ◌≤◌, ◌<◌, ℕ, ◌+◌, ◌-◌, List, [], ◌∷◌, ◌++◌, length, Bool, true, false, cond, refl, sym, ◌∙◌, ap, subst, arith, ◌⊎◌, inl, inr}
+use Rattle.std.proofs.Common.{◌≡◌, ◌≢◌, ◌≤◌, ℕ, ◌+◌, ◌-◌, List, [], ◌∷◌, ◌++◌, Bool, true, false, cond, refl, sym, ◌∙◌, ap, subst, arith, ◌⊎◌, inl, inr}
 use Rattle.std.proofs.lemmas.Bool.Decides.{nat_tests}
-use Rattle.std.specs.Prelude.{Option, Some, None, IfSome, IsSome, IsSomeAnd, option_map, ◌==◌, if◌then◌else◌, codes}
-use Rattle.outside.specs.Meaning.{Files, ShelfState, SinkState, CalledTimes, NoneFell, Rose, raised, written_more, with_file, OthersStay}
+use Rattle.std.specs.Prelude.{Option, Some, None, IfSome, IsSome, IsSomeAnd, option_map, ◌==◌}
+use Rattle.outside.specs.Meaning.{Files, ShelfState, SinkState, Rose, raised, written_more, with_file}
 use Rattle.outside.specs.declared.status.Status.{Status}
 use Rattle.outside.specs.declared.status.Status.TheVariants.{ShelfFailed, SinkFailed, NoMemory}
-use Rattle.outside.specs.Plan.{Plan, finish, say, fetch, store, Event, wrote, got, stored, get_failed, put_failed, Reply, reply_of, Leads, Agrees, bytes_of, calls_of, has_failure, wrote_all, say_all, line_of, failed_line, failed_at, IsCall, IsSay, Happened, Stops, Ran}
+use Rattle.outside.specs.Plan.{Plan, finish, say, fetch, store, Event, wrote, got, stored, get_failed, put_failed, Reply, reply_of, Leads, Agrees, bytes_of, calls_of, has_failure, wrote_all, say_all, failed_line, IsCall, IsSay, Ran}
 use Rattle.outside.specs.Output.{output_of, status_of, fails_now, after_call, IsOutput, IsWhole}
 use Rattle.outside.proofs.Events.{calls_of-append}
 

@@ -4,8 +4,8 @@ use Rattle.std.proofs.lemmas.Bool.Decides.{nat_tests}
 use Rattle.std.specs.Prelude.{nat_lt, Result, Ok, Err, Option, Some, None, IfSome, IsSomeAnd, option_map}
 use Rattle.outside.specs.Meaning.{Found, NotFound, FoundLonger, Files, ShelfState, SinkState, CalledTimes, NoneFell, Rose, raised, written_more, IsProperPrefix}
 use Rattle.outside.specs.declared.status.Status.{Status}
-use Rattle.outside.specs.declared.status.Status.TheVariants.{ShelfFailed, SinkFailed, NoMemory}
-use Rattle.outside.specs.Plan.{Plan, finish, say, fetch, store, Event, wrote, got, stored, get_failed, put_failed, Reply, held, missing, too_long, line_of, reply_of, is_missing, is_too_long, Leads, bytes_of, calls_of, has_failure, has_reply, Agrees, wrote_all, say_all, failed_at, IsCall, IsSay, Happened, Went, Goes, Stops, Ran}
+use Rattle.outside.specs.declared.status.Status.TheVariants.{SinkFailed, NoMemory}
+use Rattle.outside.specs.Plan.{Plan, finish, say, fetch, Event, got, get_failed, Reply, held, missing, too_long, line_of, reply_of, is_missing, is_too_long, Leads, bytes_of, calls_of, has_failure, has_reply, Agrees, wrote_all, say_all, failed_at, IsCall, Happened, Went, Goes, Ran}
 use Rattle.outside.proofs.Writing.{written_more-append, written_more-none}
 use Rattle.outside.proofs.Events.{leads-append, bytes_of-append, calls_of-append, has_failure-append, has_reply-append, agrees-append, leads-wrote_all, bytes_of-wrote_all, calls_of-wrote_all, has_failure-wrote_all, has_reply-wrote_all, agrees-wrote_all, say_all-append, option_raised, raised-none, rose_later, rose_before}
 

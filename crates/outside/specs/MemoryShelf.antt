@@ -1,5 +1,5 @@
 -- A shelf in memory.
-use Rattle.std.specs.Prelude.{ℕ, ◌+◌, List, Option, Some, Result, Ok, Err, Contains}
+use Rattle.std.specs.Prelude.{ℕ, List, Some, Result, Ok, Err, Contains}
 use Rattle.outside.specs.declared.memory_shelf.Entry.{Entry}
 use Rattle.outside.specs.declared.shelf.ShelfError.{ShelfError}
 use Rattle.outside.specs.declared.shelf.ShelfError.TheVariants.{Failed, Absent, TooLong, Memory}

@@ -1,8 +1,8 @@
 -- The output of a plan over files, and what it is for a run to be that output.
-use Rattle.std.specs.Prelude.{◌≡◌, ◌≢◌, ◌⊎◌, ℕ, ◌+◌, ◌-◌, ◌≤◌, List, [], ◌∷◌, ◌++◌, Bool, false, Option, Some, None, IfSome, option_map, ◌==◌, if◌then◌else◌}
+use Rattle.std.specs.Prelude.{◌≡◌, ◌≢◌, ℕ, ◌+◌, ◌-◌, ◌≤◌, List, [], ◌∷◌, ◌++◌, Bool, false, Option, Some, None, IfSome, option_map, ◌==◌, if◌then◌else◌}
 use Rattle.outside.specs.declared.status.Status.{Status}
 use Rattle.outside.specs.declared.status.Status.TheVariants.{ShelfFailed, SinkFailed, NoMemory}
-use Rattle.outside.specs.Meaning.{Files, with_file, ShelfState, SinkState, CalledTimes, Rose, written_more, IsProperPrefix}
+use Rattle.outside.specs.Meaning.{Files, with_file, ShelfState, SinkState, CalledTimes, Rose, written_more}
 use Rattle.outside.specs.Plan.{Plan, finish, say, fetch, store, Event, wrote, got, stored, get_failed, put_failed, missing, wrote_all, bytes_of, calls_of, reply_of, failed_line, absent_line}
 
 -- the next get or put is the one that fails

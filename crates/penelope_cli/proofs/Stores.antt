@@ -3,6 +3,7 @@ use Rattle.std.proofs.Common.{◌≡◌, ◌<◌, ◌≤◌, ℕ, suc, List, [],
 use Rattle.std.specs.Prelude.{not, ◌&&◌, ◌||◌, bytes_eq}
 use Rattle.std.proofs.Math.ListN.{set}
 use Rattle.std.specs.List.{list_all, prefix_len}
+use Rattle.std.proofs.lemmas.Bool.{and_parts}
 use Rattle.std.proofs.lemmas.Slice.Eq.{bytes_eq-Decides}
 use Rattle.ada_read.specs.declared.procedure.Procedure.{Procedure}
 use Rattle.ada_read.specs.declared.procedure.Statement.{Statement}
@@ -26,14 +27,6 @@ objects bindings = map (λ binding. binding.object) bindings
 -- the values are those of the store, for each object that has a place
 abbrev Agrees : List Binding → Store → Type 0
 Agrees bindings store = (name : List ℕ) → has (objects bindings) name ≡ true → bound_value bindings name ≡ store name
-
-first_true : (a b : Bool) → (a && b) ≡ true → a ≡ true
-first_true true b e = refl
-first_true false b e = cc
-
-second_true : (a b : Bool) → (a && b) ≡ true → b ≡ true
-second_true true b e = e
-second_true false b e = cc
 
 other_true : (a b : Bool) → a ≡ false → (a || b) ≡ true → b ≡ true
 other_true true b e f = cc
@@ -151,9 +144,9 @@ operand_agrees bindings store (Entry name) agrees known = refl
 statement_agrees : (bindings : List Binding) (store : Store) (statement : Statement) → Agrees bindings store → knows_statement (objects bindings) statement ≡ true → Agrees (after_statement statement bindings) (after statement store)
 statement_agrees bindings store Null agrees known = agrees
 statement_agrees bindings store (Assign target value) agrees known = λ name is.
-    let value_is = atom_agrees bindings store value agrees (second_true (has (objects bindings) target) (knows_atom (objects bindings) value) known) in
+    let value_is = atom_agrees bindings store value agrees (and_parts (has (objects bindings) target) (knows_atom (objects bindings) value) known).1 in
     let name_is = agrees name (subst (λ (names : List (List ℕ)). has names name ≡ true) (objects-rebound bindings target (bound_atom bindings value)) is) in
-    bound-rebound bindings target (bound_atom bindings value) name (first_true (has (objects bindings) target) (knows_atom (objects bindings) value) known)
+    bound-rebound bindings target (bound_atom bindings value) name (and_parts (has (objects bindings) target) (knows_atom (objects bindings) value) known).0
     ∙ ap (λ (v : Term). cond (bytes_eq target name) v (bound_value bindings name)) value_is
     ∙ ap (λ (w : Term). cond (bytes_eq target name) (value_of store value) w) name_is
 
@@ -168,8 +161,8 @@ objects-statements (statement ∷ statements) bindings = objects-statements stat
 statements_agree : (statements : List Statement) (bindings : List Binding) (store : Store) → Agrees bindings store → list_all (knows_statement (objects bindings)) statements ≡ true → Agrees (after_statements statements bindings) (after_all statements store)
 statements_agree [] bindings store agrees known = agrees
 statements_agree (statement ∷ statements) bindings store agrees known =
-    let here = first_true (knows_statement (objects bindings) statement) (list_all (knows_statement (objects bindings)) statements) known in
-    let there = second_true (knows_statement (objects bindings) statement) (list_all (knows_statement (objects bindings)) statements) known in
+    let here = (and_parts (knows_statement (objects bindings) statement) (list_all (knows_statement (objects bindings)) statements) known).0 in
+    let there = (and_parts (knows_statement (objects bindings) statement) (list_all (knows_statement (objects bindings)) statements) known).1 in
     statements_agree statements (after_statement statement bindings) (after statement store) (statement_agrees bindings store statement agrees here)
     (subst (λ (names : List (List ℕ)). list_all (knows_statement names) statements ≡ true) (sym (objects-statement bindings statement)) there)
 
@@ -177,12 +170,12 @@ statements_agree (statement ∷ statements) bindings store agrees known =
 conclusions_agree : (bindings : List Binding) (store : Store) (clauses : List Clause) → Agrees bindings store → list_all (knows_clause (objects bindings)) clauses ≡ true → bound_conclusions bindings clauses ≡ conclusions_of store clauses
 conclusions_agree bindings store [] agrees known = refl
 conclusions_agree bindings store (In left right ∷ clauses) agrees known =
-    conclusions_agree bindings store clauses agrees (second_true (knows_clause (objects bindings) (In left right)) (list_all (knows_clause (objects bindings)) clauses) known)
+    conclusions_agree bindings store clauses agrees (and_parts (knows_clause (objects bindings) (In left right)) (list_all (knows_clause (objects bindings)) clauses) known).1
 conclusions_agree bindings store (Out left right ∷ clauses) agrees known =
-    let here = first_true (knows_clause (objects bindings) (Out left right)) (list_all (knows_clause (objects bindings)) clauses) known in
-    let there = second_true (knows_clause (objects bindings) (Out left right)) (list_all (knows_clause (objects bindings)) clauses) known in
-    let left_is = operand_agrees bindings store left agrees (first_true (knows_operand (objects bindings) left) (knows_operand (objects bindings) right) here) in
-    let right_is = operand_agrees bindings store right agrees (second_true (knows_operand (objects bindings) left) (knows_operand (objects bindings) right) here) in
+    let here = (and_parts (knows_clause (objects bindings) (Out left right)) (list_all (knows_clause (objects bindings)) clauses) known).0 in
+    let there = (and_parts (knows_clause (objects bindings) (Out left right)) (list_all (knows_clause (objects bindings)) clauses) known).1 in
+    let left_is = operand_agrees bindings store left agrees (and_parts (knows_operand (objects bindings) left) (knows_operand (objects bindings) right) here).0 in
+    let right_is = operand_agrees bindings store right agrees (and_parts (knows_operand (objects bindings) left) (knows_operand (objects bindings) right) here).1 in
     ap (λ (l : Term). equal l (bound_operand bindings right) ∷ bound_conclusions bindings clauses) left_is
     ∙ ap (λ (r : Term). equal (operand_of store left) r ∷ bound_conclusions bindings clauses) right_is
     ∙ ap (λ (ts : List Term). equal (operand_of store left) (operand_of store right) ∷ ts) (conclusions_agree bindings store clauses agrees there)

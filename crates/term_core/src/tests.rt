@@ -7,211 +7,179 @@ use sqlite_items::{Boxed, Items};
 use std::alloc::Global;
 use std::test::Fail;
 
-fn text(alloc: Global, bytes: &[u8]) -> Result<Text, Memory> {
-    Ok(Text::from(bytes.to_vec(alloc)?))
+fn text(alloc: Global, bytes: &str) -> Result<Text, Memory> {
+    Ok(Text::from(bytes.as_bytes().to_vec(alloc)?))
 }
 
-fn is(text: &Text, bytes: &[u8]) -> bool {
-    text.as_bytes() == bytes
+// A sort's form and its size.
+fn sort_shape(sort: &Sort) -> (&'static str, usize) {
+    match sort {
+        Sort::Whole => ("whole", 0),
+        Sort::Range(_, _) => ("range", 0),
+        Sort::Truth => ("truth", 0),
+        Sort::Array(_, _, _) => ("array", 1),
+        Sort::Record(_, parts) => ("record", parts.len()),
+        Sort::Free(_) => ("free", 0),
+    }
 }
 
-fn whole(alloc: Global, value: i128) -> Result<Boxed<Term>, Memory> {
-    Ok(Boxed::new(alloc, Term::Int(value))?)
-}
-
-fn is_whole(term: &Term, value: i128) -> bool {
-    matches!(term, Term::Int(n) if *n == value)
+fn copied_sort(alloc: Global, sort: Sort) -> Result<(&'static str, usize), Memory> {
+    Ok(sort_shape(&sort.copy(alloc)?))
 }
 
 #[test]
 fn sorts_are_copied(rt: HostRuntime) -> Result<(), Fail> {
     let alloc = rt.alloc();
-    assert!(rt; matches!(Sort::Whole.copy(alloc)?, Sort::Whole));
-    assert!(rt; matches!(Sort::Range(-3, 8).copy(alloc)?, Sort::Range(-3, 8)));
-    assert!(rt; matches!(Sort::Truth.copy(alloc)?, Sort::Truth));
-    assert!(rt; matches!(Sort::Free(6).copy(alloc)?, Sort::Free(6)));
-    let row = Sort::Array(0, 9, Boxed::new(alloc, Sort::Range(1, 2))?);
-    match row.copy(alloc)? {
-        Sort::Array(0, 9, element) => assert!(rt; matches!(element.get(), Sort::Range(1, 2))),
-        _ => panic!(rt; "the array is lost"),
-    }
-    let pair = Sort::Record(
+    assert_eq!(rt; copied_sort(alloc, Sort::Whole)?, ("whole", 0));
+    assert_eq!(rt; copied_sort(alloc, Sort::Range(-3, 8))?, ("range", 0));
+    assert_eq!(rt; copied_sort(alloc, Sort::Truth)?, ("truth", 0));
+    assert_eq!(rt; copied_sort(alloc, Sort::Free(6))?, ("free", 0));
+    let array = Sort::Array(0, 9, Boxed::new(alloc, Sort::Whole)?);
+    assert_eq!(rt; copied_sort(alloc, array)?, ("array", 1));
+    let record = Sort::Record(
         4,
-        Items::from_vec(vec![in alloc; Sort::Truth, Sort::Free(1)]?),
+        Items::from_vec(vec![in alloc; Sort::Truth, Sort::Whole]?),
     );
-    match pair.copy(alloc)? {
-        Sort::Record(4, parts) => {
-            assert_eq!(rt; parts.len(), 2);
-            assert!(rt; matches!(parts.get(0), Some(Sort::Truth)));
-            assert!(rt; matches!(parts.get(1), Some(Sort::Free(1))));
-        }
-        _ => panic!(rt; "the record is lost"),
-    }
+    assert_eq!(rt; copied_sort(alloc, record)?, ("record", 2));
     Ok(())
 }
 
-fn are_wholes(terms: &Terms, first: i128, second: i128) -> bool {
-    let terms = terms.as_slice();
-    terms.len() == 2 && is_whole(&terms[0], first) && is_whole(&terms[1], second)
+// A term's form and its size.
+fn shape(term: &Term) -> (&'static str, usize) {
+    match term {
+        Term::Int(_) => ("int", 0),
+        Term::Truth(_) => ("truth", 0),
+        Term::Var(name) => ("var", name.as_bytes().len()),
+        Term::Op(_, terms) => ("op", terms.len()),
+        Term::All(name, _, _, _) => ("all", name.as_bytes().len()),
+        Term::Some(name, _, _, _) => ("some", name.as_bytes().len()),
+    }
 }
 
-// Whether it is a quantifier of the name over these.
-fn is_over(term: &Term, variable: &[u8], over: [i128; 3]) -> bool {
-    match term {
-        Term::All(name, low, high, body) | Term::Some(name, low, high, body) => {
-            is(name, variable)
-                && is_whole(low.get(), over[0])
-                && is_whole(high.get(), over[1])
-                && is_whole(body.get(), over[2])
-        }
-        _ => false,
-    }
+fn copied(alloc: Global, term: Term) -> Result<(&'static str, usize), Memory> {
+    Ok(shape(&term.copy(alloc)?))
+}
+
+fn part(alloc: Global) -> Result<Boxed<Term>, Memory> {
+    Ok(Boxed::new(alloc, Term::Int(1))?)
+}
+
+fn all(alloc: Global) -> Result<Term, Memory> {
+    Ok(Term::All(text(alloc, "i")?, part(alloc)?, part(alloc)?, part(alloc)?))
+}
+
+fn some(alloc: Global) -> Result<Term, Memory> {
+    Ok(Term::Some(text(alloc, "j2")?, part(alloc)?, part(alloc)?, part(alloc)?))
 }
 
 #[test]
 fn terms_are_copied(rt: HostRuntime) -> Result<(), Fail> {
     let alloc = rt.alloc();
-    assert!(rt; is_whole(&Term::Int(-7).copy(alloc)?, -7));
-    assert!(rt; matches!(Term::Truth(true).copy(alloc)?, Term::Truth(true)));
-    let variable = Term::Var(text(alloc, b"x")?).copy(alloc)?;
-    assert!(rt; matches!(&variable, Term::Var(name) if is(name, b"x")));
-
-    let sides = Items::from_vec(vec![in alloc; Term::Int(1), Term::Int(2)]?);
-    let same = Term::Op(Oper::Field(3), sides).copy(alloc)?;
-    assert!(rt; matches!(&same, Term::Op(Oper::Field(3), terms) if are_wholes(terms, 1, 2)));
-
-    let all = Term::All(
-        text(alloc, b"i")?,
-        whole(alloc, 1)?,
-        whole(alloc, 2)?,
-        whole(alloc, 3)?,
-    )
-    .copy(alloc)?;
-    assert!(rt; matches!(&all, Term::All(..)));
-    assert!(rt; is_over(&all, b"i", [1, 2, 3]));
-
-    let some = Term::Some(
-        text(alloc, b"j")?,
-        whole(alloc, 4)?,
-        whole(alloc, 5)?,
-        whole(alloc, 6)?,
-    )
-    .copy(alloc)?;
-    assert!(rt; matches!(&some, Term::Some(..)));
-    assert!(rt; is_over(&some, b"j", [4, 5, 6]));
+    assert_eq!(rt; copied(alloc, Term::Int(-7))?, ("int", 0));
+    assert_eq!(rt; copied(alloc, Term::Truth(true))?, ("truth", 0));
+    assert_eq!(rt; copied(alloc, Term::Var(text(alloc, "xyz")?))?, ("var", 3));
+    let sum = Term::Op(
+        Oper::Add,
+        Items::from_vec(vec![in alloc; Term::Int(1), Term::Int(2)]?),
+    );
+    assert_eq!(rt; copied(alloc, sum)?, ("op", 2));
+    assert_eq!(rt; copied(alloc, all(alloc)?)?, ("all", 1));
+    assert_eq!(rt; copied(alloc, some(alloc)?)?, ("some", 2));
     Ok(())
 }
 
-// For all x, of the label, 1 implies 2.
-fn sequent(alloc: Global) -> Result<Sequent, Memory> {
-    let var = Var {
-        name: text(alloc, b"x")?,
-        label: text(alloc, b"Small")?,
+// One variable, one hypothesis and a goal.
+fn obligation(alloc: Global) -> Result<Obligation, Memory> {
+    let mut vars = Vec::new(alloc);
+    vars.push(Var {
+        name: text(alloc, "x")?,
+        label: text(alloc, "SMALL")?,
         sort: Sort::Range(0, 5),
-    };
-    let vars = Vars::from(vec![in alloc; var]?);
-    let hyps = Items::from_vec(vec![in alloc; Term::Int(1)]?);
-    Ok(Sequent {
-        vars,
-        hyps,
-        goal: Term::Int(2),
+    })?;
+    let mut hyps = Terms::new(alloc);
+    hyps.push(Term::Int(1))?;
+    Ok(Obligation {
+        cut: text(alloc, "loop1")?,
+        ordinal: 3,
+        sequent: Sequent {
+            vars: Vars::from(vars),
+            hyps,
+            goal: Term::Truth(true),
+        },
     })
 }
 
-// Whether it is that sequent.
-fn is_sequent(sequent: &Sequent) -> bool {
-    let vars = sequent.vars.as_slice();
-    let hyps = sequent.hyps.as_slice();
-    vars.len() == 1
-        && is(&vars[0].name, b"x")
-        && is(&vars[0].label, b"Small")
-        && matches!(vars[0].sort, Sort::Range(0, 5))
-        && hyps.len() == 1
-        && is_whole(&hyps[0], 1)
-        && is_whole(&sequent.goal, 2)
+fn copied_obligations(alloc: Global) -> Result<Vec<Obligation>, Memory> {
+    let mut obligations = Vec::new(alloc);
+    obligations.push(obligation(alloc)?)?;
+    let obligations = Obligations::from(obligations);
+    Ok(obligations.copy(alloc)?.into_vec())
 }
 
 #[test]
 fn obligations_are_copied(rt: HostRuntime) -> Result<(), Fail> {
-    let alloc = rt.alloc();
-    assert!(rt; is_sequent(&sequent(alloc)?.copy(alloc)?));
-    let vars = sequent(alloc)?.vars.into_vec();
+    let obligations = copied_obligations(rt.alloc())?;
+    assert_eq!(rt; obligations.len(), 1);
+    let obligation = &obligations[0];
+    assert_eq!(rt; obligation.cut.as_bytes(), "loop1".as_bytes());
+    assert_eq!(rt; obligation.ordinal, 3);
+    assert_eq!(rt; obligation.sequent.hyps.len(), 1);
+    assert_eq!(rt; shape(&obligation.sequent.goal), ("truth", 0));
+    let vars = obligation.sequent.vars.as_slice();
     assert_eq!(rt; vars.len(), 1);
-    assert!(rt; is(&vars[0].label, b"Small"));
-
-    let obligation = Obligation {
-        cut: text(alloc, b"loop")?,
-        ordinal: 3,
-        sequent: sequent(alloc)?,
-    };
-    let list = Obligations::from(vec![in alloc; obligation.copy(alloc)?, obligation]?);
-    let same = list.copy(alloc)?;
-    assert_eq!(rt; same.as_slice().len(), 2);
-    for obligation in same.into_vec() {
-        assert!(rt; is(&obligation.cut, b"loop"));
-        assert_eq!(rt; obligation.ordinal, 3);
-        assert!(rt; is_sequent(&obligation.sequent));
-    }
+    assert_eq!(rt; vars[0].label.as_bytes(), "SMALL".as_bytes());
     Ok(())
 }
 
-fn pair(alloc: Global, first: &[u8], second: &[u8]) -> Result<Names, Memory>
+fn pair(alloc: Global, first: &str, second: &str) -> Result<Names, Memory>
     ensures { IfOk result (λ names. length names ≡ 2) }
 {
-    let texts = vec![in alloc; text(alloc, first)?, text(alloc, second)?]?;
-    Ok(Names::from(texts))
+    let mut names = Names::new(alloc);
+    names.push(text(alloc, first)?)?;
+    names.push(text(alloc, second)?)?;
+    Ok(names)
 }
 
-fn is_pair(names: &Names, first: &[u8], second: &[u8]) -> bool {
-    let texts = names.as_slice();
-    texts.len() == 2 && is(&texts[0], first) && is(&texts[1], second)
+// A record type with two components.
+fn sort_names(alloc: Global) -> Result<SortNames, Memory> {
+    let mut names = SortNames::new(alloc);
+    let parts = pair(alloc, "LEFT", "RIGHT")?;
+    let sorts = Items::from_vec(vec![in alloc; Sort::Whole, Sort::Truth]?);
+    names.push(SortEntry {
+        name: text(alloc, "PAIR")?,
+        sort: Sort::Record(0, sorts),
+        seen: true,
+        parts,
+        base: 0,
+    })?;
+    names.copy(alloc)
 }
 
 #[test]
 fn type_names_are_added_and_copied(rt: HostRuntime) -> Result<(), Fail> {
-    let alloc = rt.alloc();
-    let mut names = SortNames::new(alloc);
-    names.push(SortEntry {
-        name: text(alloc, b"Pair")?,
-        sort: Sort::Record(
-            0,
-            Items::from_vec(vec![in alloc; Sort::Whole, Sort::Truth]?),
-        ),
-        seen: true,
-        parts: pair(alloc, b"left", b"rest")?,
-        base: 0,
-    })?;
-    names.push(SortEntry {
-        name: text(alloc, b"Also")?,
-        sort: Sort::Truth,
-        seen: false,
-        parts: Names::new(alloc),
-        base: 1,
-    })?;
-    let same = names.copy(alloc)?;
-    let entries = same.as_slice();
-    assert_eq!(rt; entries.len(), 2);
-    assert!(rt; is(&entries[0].name, b"Pair") && is(&entries[1].name, b"Also"));
-    assert!(rt; matches!(&entries[0].sort, Sort::Record(0, parts) if parts.len() == 2));
-    assert!(rt; matches!(entries[1].sort, Sort::Truth));
-    assert!(rt; entries[0].seen && !entries[1].seen);
-    assert!(rt; is_pair(&entries[0].parts, b"left", b"rest"));
-    assert_eq!(rt; entries[1].parts.as_slice().len(), 0);
-    assert_eq!(rt; (entries[0].base, entries[1].base), (0, 1));
+    let names = sort_names(rt.alloc())?;
+    let entries = names.as_slice();
+    assert_eq!(rt; entries.len(), 1);
+    assert_eq!(rt; entries[0].name.as_bytes(), "PAIR".as_bytes());
+    assert_eq!(rt; sort_shape(&entries[0].sort), ("record", 2));
+    assert_eq!(rt; entries[0].parts.as_slice().len(), 2);
     Ok(())
+}
+
+fn op_names(alloc: Global) -> Result<OpNames, Memory> {
+    let names = OpNames {
+        ops: pair(alloc, "LEN", "APPEND")?,
+        types: Names::new(alloc),
+        parts: pair(alloc, "LEFT", "RIGHT")?,
+    };
+    names.copy(alloc)
 }
 
 #[test]
 fn names_of_operators_are_copied(rt: HostRuntime) -> Result<(), Fail> {
-    let alloc = rt.alloc();
-    let names = OpNames {
-        ops: pair(alloc, b"gcd1", b"gcd2")?,
-        types: pair(alloc, b"Pair", b"Tree")?,
-        parts: pair(alloc, b"left", b"rest")?,
-    };
-    let same = names.copy(alloc)?;
-    assert!(rt; is_pair(&same.ops, b"gcd1", b"gcd2"));
-    assert!(rt; is_pair(&same.types, b"Pair", b"Tree"));
-    assert!(rt; is_pair(&same.parts, b"left", b"rest"));
+    let names = op_names(rt.alloc())?;
+    assert_eq!(rt; names.ops.as_slice().len(), 2);
+    assert_eq!(rt; names.types.as_slice().len(), 0);
+    assert_eq!(rt; names.parts.as_slice().len(), 2);
     Ok(())
 }

@@ -1,6 +1,6 @@
-use Rattle.std.proofs.Common.{rules, arith, inl, inr, refl, ◌<◌, ◌≡◌, length}
+use Rattle.std.proofs.Common.{rules, arith, inl, inr, refl}
 use Rattle.std.proofs.lemmas.Grind.{common_steps}
-use Rattle.outside.specs.MemorySink.{FailsAt, taken}
+use Rattle.outside.specs.MemorySink.{FailsAt}
 use Rattle.outside.proofs.memory_sink.MemSinkSink.write.Goals as goal
 use Rattle.outside.proofs.memory_sink.MemSinkSink.write.Goals.{then-contains-via-then-contains, then-contains-via-else-contains+then-not-is_empty}
 
