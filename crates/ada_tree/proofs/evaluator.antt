@@ -1,0 +1,5 @@
+pub mod Complete
+pub mod Lines
+pub mod Sound
+pub mod Tests
+pub mod Ways
