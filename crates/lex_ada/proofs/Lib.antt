@@ -1,0 +1,4 @@
+pub mod Lengths
+pub mod lexing
+pub mod rendering
+pub mod Turns

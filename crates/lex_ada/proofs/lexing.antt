@@ -1,0 +1,13 @@
+pub mod Cuts
+pub mod Fronts
+pub mod Heads
+pub mod Letters
+pub mod Lines
+pub mod Marks
+pub mod Refusals
+pub mod Runs
+pub mod Scanning
+pub mod Scans
+pub mod Spans
+pub mod Spelled
+pub mod Unique

@@ -1,0 +1,5 @@
+pub mod Cutting
+pub mod Faults
+pub mod Lexis
+pub mod Meanings
+pub mod Rendered
