@@ -1,3 +1,4 @@
+pub mod apart
 pub mod Lengths
 pub mod lexing
 pub mod rendering

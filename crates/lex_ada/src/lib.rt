@@ -13,6 +13,7 @@ mod words;
 
 pub use laws::{
     a_text_has_one_answer, lines_join, rendered_text_has_the_tokens, tokens_stand_in_order,
+    written_files_are_read,
 };
 pub use lex::tokens;
 pub use token::{Token, TokenKind, Tokens};

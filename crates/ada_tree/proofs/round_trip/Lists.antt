@@ -1,6 +1,7 @@
 -- Members, members with a mark between them, arguments of proof steps, and kids.
 use Rattle.std.proofs.Common.{◌≡◌, ℕ, List, [], ◌∷◌, ◌++◌, refl, ◌∙◌, ap, subst, Bool, true, false, not, ◌&&◌, ◌||◌, Some, append_assoc}
 use Rattle.std.specs.List.{list_all}
+use Rattle.std.proofs.lemmas.Bool.{or_left, or_right}
 use Rattle.ada_tree.specs.declared.kind.Kind.TheVariants as kind
 use Rattle.ada_tree.specs.declared.word.Word.TheVariants as word
 use Rattle.ada_tree.specs.declared.word.Mark.{Mark}
@@ -28,22 +29,14 @@ use Rattle.ada_tree.proofs.round_trip.Nodes.{parentheses_append}
 use Rattle.ada_tree.proofs.round_trip.Written.{as_written, all_written, opened, node_items, member_items, IsNodeWritten, AreMembersWritten, AreListedWritten, AreArgumentsWritten}
 use Rattle.ada_tree.proofs.round_trip.Layouts.{argument_items, list_items}
 
-notes_at : (node : Node) → (as_written node).notes ≡ notes_of node
+pub notes_at : (node : Node) → (as_written node).notes ≡ notes_of node
 notes_at node = ap (λ (w : Written). w.notes) (opened node)
 
-nothing : {A : Type 0} (xs : List A) → is_empty xs ≡ true → xs ≡ []
+pub nothing : {A : Type 0} (xs : List A) → is_empty xs ≡ true → xs ≡ []
 nothing [] h = refl
 nothing (x ∷ xs) h = absurd cc
 
-or_left : (a b : Bool) → a ≡ true → a || b ≡ true
-or_left true b h = refl
-or_left false b h = absurd cc
-
-or_right : (a b : Bool) → b ≡ true → a || b ≡ true
-or_right true b h = refl
-or_right false b h = h
-
-other_of : (a b : Bool) → a || b ≡ true → a ≡ false → b ≡ true
+pub other_of : (a b : Bool) → a || b ≡ true → a ≡ false → b ≡ true
 other_of true b h e = absurd cc
 other_of false b h e = h
 
@@ -64,7 +57,7 @@ silent_member : (place : Choice) (node : Node) (nodes : List Node) (notes : List
 silent_member place node nodes notes rest h =
     first_member place node nodes notes rest ∙ ap (λ own. comment_lines own ++ (node_items place node ++ (line_break ∷ (member_items place nodes notes ++ rest)))) (nothing (notes_of node) h)
 
-starts_at_first : (c : Comments) (first : Bool) → starts_with_comments c first ≡ true → starts_with_comments c true ≡ true
+pub starts_at_first : (c : Comments) (first : Bool) → starts_with_comments c first ≡ true → starts_with_comments c true ≡ true
 starts_at_first Each first h = refl
 starts_at_first First first h = refl
 starts_at_first Kept first h = h

@@ -47,11 +47,11 @@ sure_admitted : {note : Bool} {place : Choice} {k : Kind} {text : List ℕ} → 
 sure_admitted {note = note} {place = place} {k = k} {text = text} (as_it_is h) p = sure_stands note place k text h p
 sure_admitted {place = place} (in_them o h) p = let e = never_sure place o in absurd cc
 
-bare_admitted : {note : Bool} {place : Choice} {k : Kind} {text : List ℕ} → Admitted note place k text → is_wrapped place k text ≡ false → stands note place k text ≡ true
+pub bare_admitted : {note : Bool} {place : Choice} {k : Kind} {text : List ℕ} → Admitted note place k text → is_wrapped place k text ≡ false → stands note place k text ≡ true
 bare_admitted (as_it_is h) w = h
 bare_admitted {note = note} {place = place} {k = k} {text = text} (in_them o h) w = stands_bare note place k text o w h
 
-wrapped_admitted : {note : Bool} {place : Choice} {k : Kind} {text : List ℕ} → Admitted note place k text → is_wrapped place k text ≡ true → stands note choice.Expr k text ≡ true
+pub wrapped_admitted : {note : Bool} {place : Choice} {k : Kind} {text : List ℕ} → Admitted note place k text → is_wrapped place k text ≡ true → stands note choice.Expr k text ≡ true
 wrapped_admitted {note = note} {place = place} {k = k} {text = text} (as_it_is h) w = stands_in_them note place k text w h
 wrapped_admitted (in_them o h) w = h
 

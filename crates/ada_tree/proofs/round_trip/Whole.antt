@@ -25,10 +25,10 @@ use Rattle.ada_tree.proofs.round_trip.Opened.{opened_within}
 
 -- ---- the files of a document are spelled
 
-record IsSpelled (note : Bool) (place : Choice) (node : Node) : Type 0 where
-  events : List Event
-  rest : List Event
-  spelling : SpellsNode note place node events rest
+pub record IsSpelled (note : Bool) (place : Choice) (node : Node) : Type 0 where
+  pub events : List Event
+  pub rest : List Event
+  pub spelling : SpellsNode note place node events rest
 
 members_spelled : {note : Bool} {place : Choice} {first : Bool} {nodes : List Node} {notes : List (List ℕ)} {events rest : List Event} → SpellsMembers note place first nodes notes events rest → All (IsSpelled note place) nodes
 members_spelled {note = note} {place = place} (end_with_comments e c) = All-nil (IsSpelled note place)
@@ -53,6 +53,9 @@ files_spelled {root = root} {events = events} {rest = rest} (by_line s h c d) =
     let same = only_doc (kind_of root) s in
     kids_spelled (subst (λ k. SpellsLine false (line (Only kind.Doc) k (text_of root)) root (kids_of root) events rest) (sym same) d)
 
+pub file_spelled : (root file : Node) → Fits root → Contains (kids_of root) file → IsSpelled false (Only kind.File) file
+file_spelled root file fits i = All-contains (IsSpelled false (Only kind.File)) (kids_of root) file (files_spelled fits.spelling) i
+
 -- ---- files are nested no deeper than the document
 
 each_below : (test : Kind → Bool) (bound : ℕ) (nodes : List Node) → greatest (map (nesting_of test) nodes) ≤ bound → All (λ node. nesting_of test node ≤ bound) nodes
@@ -66,7 +69,7 @@ nested_kid test root file i =
 
 pub canonical_is_read : (root file : Node) → Fits root → Contains (kids_of root) file → IsReading false (Only kind.File) (signs false (items_of (One (Only kind.File)) file)) file
 canonical_is_read root file fits i =
-    let found = All-contains (IsSpelled false (Only kind.File)) (kids_of root) file (files_spelled fits.spelling) i in
+    let found = file_spelled root file fits i in
     let own = written_as refl found.spelling in
     let nodes = nested_kid is_nested root file i in
     let steps = nested_kid is_step root file i in
