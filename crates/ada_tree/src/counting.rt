@@ -16,7 +16,7 @@ pub fn counts(doc: &Doc) -> Counts
     counts
 }
 
-// Adds the nodes and those below them.
+/// Adds the nodes and those below them.
 pub fn add_counts(nodes: &[Node], counts: &mut Counts)
     ensures tree { counts.new.tree ≡ min (counts.old.tree + sum_by (count_of (λ k. not (is_step k))) nodes.now) (2 ^ 64 - 1) }
     ensures proof { counts.new.proof ≡ min (counts.old.proof + sum_by (count_of is_step) nodes.now) (2 ^ 64 - 1) }

@@ -31,6 +31,7 @@ impl Model for Doc {
 }
 
 impl Doc {
+    /// An equal document.
     pub fn copy(&self, alloc: Global) -> Result<Self, Memory>
         ensures { IfOk result (λ same. same ≡ self.now) }
     {
@@ -103,6 +104,7 @@ fn is_alike(a: &Node, b: &Node) -> bool
     are_same_texts(a.notes.as_slice(), b.notes.as_slice())
 }
 
+/// Whether two nodes are equal, with all below them.
 #[cycle(same)]
 pub fn is_same(a: &Node, b: &Node) -> bool
     ensures { IsTrue result ↔ (a.now ≡ b.now) }

@@ -11,7 +11,7 @@ use std::alloc::Global;
 /// of its line in order (docs/grammar.md).
 ///
 /// Dropping a node, as comparing and counting it, goes down its kids on the machine's stack:
-/// docs/architecture.md says how deep a tree may be.
+/// docs/DECISIONS.md says how deep a tree may be.
 #[derive(Drop)]
 pub struct Node {
     pub kind: Kind,
@@ -27,6 +27,7 @@ pub struct Node {
 pub type Kids = Items<Node>;
 
 impl Node {
+    /// An equal node. The depth of the tree takes no stack.
     pub fn copy(&self, alloc: Global) -> Result<Self, Memory>
         ensures { IfOk result (λ same. same ≡ self.now) }
     {

@@ -1,6 +1,10 @@
 // The operators, and how tightly each binds.
 ghost use Rattle.std.specs.Prelude.{◌≡◌};
 ghost use Rattle.std.specs.Option.{option_copied};
+ghost use Rattle.ada_tree.specs.declared.kind.Kind.TheVariants as kind;
+ghost use Rattle.ada_tree.specs.declared.operator.Level.TheVariants as level;
+ghost use Rattle.ada_tree.specs.declared.operator.Side.TheVariants as side;
+ghost use Rattle.ada_tree.specs.declared.operator.Operands.TheVariants as operands;
 ghost use Rattle.ada_tree.specs.Operators.{operator_text, operator_entry, operators, operator_of};
 
 use crate::grammar::Logical;
@@ -177,160 +181,52 @@ impl Operator {
         ensures { result ≡ operator_entry self }
     {
         match self {
-            Operator::And => entry(
-                Kind::Binary,
-                Side::Both,
-                Level::Logical,
-                Operands::Row(Logical::And, Level::Relation),
-            ),
-            Operator::Or => entry(
-                Kind::Binary,
-                Side::Both,
-                Level::Logical,
-                Operands::Row(Logical::Or, Level::Relation),
-            ),
-            Operator::Xor => entry(
-                Kind::Binary,
-                Side::Both,
-                Level::Logical,
-                Operands::Row(Logical::Xor, Level::Relation),
-            ),
-            Operator::AndThen => entry(
-                Kind::Binary,
-                Side::Ada,
-                Level::Logical,
-                Operands::Row(Logical::AndThen, Level::Relation),
-            ),
-            Operator::OrElse => entry(
-                Kind::Binary,
-                Side::Ada,
-                Level::Logical,
-                Operands::Row(Logical::OrElse, Level::Relation),
-            ),
-            Operator::Equal => entry(
-                Kind::Binary,
-                Side::Both,
-                Level::Relation,
-                Operands::Two(Level::Sum, Level::Sum),
-            ),
-            Operator::NotEqual => entry(
-                Kind::Binary,
-                Side::Both,
-                Level::Relation,
-                Operands::Two(Level::Sum, Level::Sum),
-            ),
-            Operator::Less => entry(
-                Kind::Binary,
-                Side::Both,
-                Level::Relation,
-                Operands::Two(Level::Sum, Level::Sum),
-            ),
-            Operator::LessEqual => entry(
-                Kind::Binary,
-                Side::Both,
-                Level::Relation,
-                Operands::Two(Level::Sum, Level::Sum),
-            ),
-            Operator::Greater => entry(
-                Kind::Binary,
-                Side::Both,
-                Level::Relation,
-                Operands::Two(Level::Sum, Level::Sum),
-            ),
-            Operator::GreaterEqual => entry(
-                Kind::Binary,
-                Side::Both,
-                Level::Relation,
-                Operands::Two(Level::Sum, Level::Sum),
-            ),
-            Operator::In => entry(
+            Operator::And => row(Side::Both, Logical::And),
+            Operator::Or => row(Side::Both, Logical::Or),
+            Operator::Xor => row(Side::Both, Logical::Xor),
+            Operator::AndThen => row(Side::Ada, Logical::AndThen),
+            Operator::OrElse => row(Side::Ada, Logical::OrElse),
+            Operator::Equal
+            | Operator::NotEqual
+            | Operator::Less
+            | Operator::LessEqual
+            | Operator::Greater
+            | Operator::GreaterEqual => binary(Side::Both, Level::Relation, Level::Sum, Level::Sum),
+            Operator::In | Operator::NotIn => entry(
                 Kind::Member,
                 Side::Ada,
                 Level::Relation,
                 Operands::Range(Level::Sum),
             ),
-            Operator::NotIn => entry(
-                Kind::Member,
-                Side::Ada,
-                Level::Relation,
-                Operands::Range(Level::Sum),
-            ),
-            Operator::Add => entry(
-                Kind::Binary,
-                Side::Both,
-                Level::Sum,
-                Operands::Two(Level::Sum, Level::Signed),
-            ),
-            Operator::Subtract => entry(
-                Kind::Binary,
-                Side::Both,
-                Level::Sum,
-                Operands::Two(Level::Sum, Level::Signed),
-            ),
-            Operator::Plus => entry(
-                Kind::Unary,
-                Side::Both,
-                Level::Signed,
-                Operands::Sign(Level::Product),
-            ),
-            Operator::Minus => entry(
-                Kind::Unary,
-                Side::Both,
-                Level::Signed,
-                Operands::Sign(Level::Product),
-            ),
-            Operator::Multiply => entry(
-                Kind::Binary,
-                Side::Both,
-                Level::Product,
-                Operands::Two(Level::Product, Level::Factor),
-            ),
-            Operator::Divide => entry(
-                Kind::Binary,
-                Side::Both,
-                Level::Product,
-                Operands::Two(Level::Product, Level::Factor),
-            ),
-            Operator::Mod => entry(
-                Kind::Binary,
-                Side::Both,
-                Level::Product,
-                Operands::Two(Level::Product, Level::Factor),
-            ),
-            Operator::Rem => entry(
-                Kind::Binary,
-                Side::Both,
-                Level::Product,
-                Operands::Two(Level::Product, Level::Factor),
-            ),
-            Operator::Abs => entry(
-                Kind::Unary,
-                Side::Both,
-                Level::Factor,
-                Operands::Word(Level::Primary),
-            ),
-            Operator::Not => entry(
-                Kind::Unary,
-                Side::Both,
-                Level::Factor,
-                Operands::Word(Level::Primary),
-            ),
-            Operator::Implies => entry(
-                Kind::Binary,
-                Side::Note,
-                Level::Implication,
-                Operands::Two(Level::Logical, Level::Implication),
-            ),
-            Operator::Iff => entry(
-                Kind::Binary,
-                Side::Note,
-                Level::Equivalence,
-                Operands::Two(Level::Implication, Level::Implication),
-            ),
-            Operator::Store => entry(Kind::Make, Side::Note, Level::Prefix, Operands::Terms),
-            Operator::Update => entry(Kind::Make, Side::Note, Level::Prefix, Operands::Terms),
-            Operator::Fill => entry(Kind::Make, Side::Note, Level::Prefix, Operands::Terms),
-            Operator::Make => entry(Kind::Make, Side::Note, Level::Prefix, Operands::Terms),
+            Operator::Add | Operator::Subtract => {
+                binary(Side::Both, Level::Sum, Level::Sum, Level::Signed)
+            }
+            Operator::Plus | Operator::Minus => {
+                unary(Level::Signed, Operands::Sign(Level::Product))
+            }
+            Operator::Multiply | Operator::Divide | Operator::Mod | Operator::Rem => {
+                binary(Side::Both, Level::Product, Level::Product, Level::Factor)
+            }
+            Operator::Abs | Operator::Not => unary(Level::Factor, Operands::Word(Level::Primary)),
+            Operator::Implies => {
+                binary(
+                    Side::Note,
+                    Level::Implication,
+                    Level::Logical,
+                    Level::Implication,
+                )
+            }
+            Operator::Iff => {
+                binary(
+                    Side::Note,
+                    Level::Equivalence,
+                    Level::Implication,
+                    Level::Implication,
+                )
+            }
+            Operator::Store | Operator::Update | Operator::Fill | Operator::Make => {
+                entry(Kind::Make, Side::Note, Level::Prefix, Operands::Terms)
+            }
         }
     }
 
@@ -352,4 +248,28 @@ fn entry(kind: Kind, side: Side, level: Level, operands: Operands) -> OperatorEn
         level,
         operands,
     }
+}
+
+// Operators of which one kind stands in a row.
+fn row(side: Side, operator: Logical) -> OperatorEntry
+    ensures { result ≡ record { kind = kind.Binary; side = side; level = level.Logical; operands = operands.Row operator level.Relation } }
+{
+    entry(
+        Kind::Binary,
+        side,
+        Level::Logical,
+        Operands::Row(operator, Level::Relation),
+    )
+}
+
+fn binary(side: Side, level: Level, left: Level, right: Level) -> OperatorEntry
+    ensures { result ≡ record { kind = kind.Binary; side = side; level = level; operands = operands.Two left right } }
+{
+    entry(Kind::Binary, side, level, Operands::Two(left, right))
+}
+
+fn unary(level: Level, operands: Operands) -> OperatorEntry
+    ensures { result ≡ record { kind = kind.Unary; side = side.Both; level = level; operands = operands } }
+{
+    entry(Kind::Unary, Side::Both, level, operands)
 }

@@ -63,9 +63,10 @@ fn nested(alloc: Global, levels: u32) -> Result<Node, Memory> {
     Ok(node)
 }
 
-// So many procedures nest in a tree of 100,000 nodes, the deepest that the grammar allows: each has
-// nine nodes of its own.
-const LEVELS: u32 = 11_110;
+// Each procedure has nine nodes, and the next one stands two levels deeper: a tree of 23,004 levels,
+// more than any of 100,000 nodes has that the grammar allows. (The interpreter of `rt try` has too
+// little stack for it.)
+const LEVELS: u32 = 11_500;
 
 fn count(node: &Node) -> Counts {
     let mut counts = Counts { tree: 0, proof: 0 };
@@ -90,9 +91,9 @@ fn nested_differs(alloc: Global) -> Result<bool, Memory> {
 }
 
 #[test]
-fn the_deepest_tree_is_counted_copied_compared_and_dropped(rt: HostRuntime) -> Result<(), Fail> {
+fn a_deep_tree_is_counted_copied_compared_and_dropped(rt: HostRuntime) -> Result<(), Fail> {
     let alloc = rt.alloc();
-    assert_eq!(rt; nested_is_counted(alloc)?, 99_999);
+    assert_eq!(rt; nested_is_counted(alloc)?, 103_509);
     assert!(rt; nested_is_copied(alloc)?);
     assert!(rt; !nested_differs(alloc)?);
     Ok(())

@@ -366,6 +366,7 @@ impl Mark {
             .find(|mark| mark.text().as_bytes() == text)
     }
 
+    /// How the mark is written.
     pub fn text(self) -> &'static str
         ensures { result.now ≡ mark_text self }
     {

@@ -61,6 +61,7 @@ impl Tokens {
         self.tokens
     }
 
+    /// The tokens in order.
     pub fn as_slice(&self) -> &[Token]
         ensures { result.now ≡ self.now }
     {

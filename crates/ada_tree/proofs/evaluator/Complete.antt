@@ -1,5 +1,6 @@
 -- Each rest that a spelling of a node leaves is one that a way gives. So events that a test refuses don't spell the tree.
 use Rattle.std.proofs.Common.{◌≡◌, ℕ, zero, suc, List, [], ◌∷◌, ◌++◌, drop, Bool, true, false, not, ◌&&◌, ◌||◌, refl, sym, ◌∙◌, ap, subst, Option, Some, flat_map, bytes_eq}
+use Rattle.std.proofs.lemmas.Bool.{and_from}
 use Rattle.std.specs.List.{list_all, list_any}
 use Rattle.std.specs.Cmp.{booleans_Decides}
 use Rattle.std.proofs.lemmas.Slice.Eq.{bytes_eq-Decides}
@@ -86,16 +87,12 @@ second_leaves p true e h = absurd cc
 guard_leaves : {p : Way} {events rest : List Event} (test : Bool) → test ≡ true → Leaves p events rest → Leaves (guarded test p) events rest
 guard_leaves test e h = first_leaves fails test e h
 
-both_true : (a b : Bool) → a ≡ true → b ≡ true → (a && b) ≡ true
-both_true true b e h = h
-both_true false b e h = absurd cc
-
 same_text : (x : List ℕ) → bytes_eq x x ≡ true
 same_text x = (bytes_eq-Decides x x).1 refl
 
 same_texts_self : (xs : List (List ℕ)) → same_texts xs xs ≡ true
 same_texts_self [] = refl
-same_texts_self (x ∷ xs) = both_true (bytes_eq x x) (same_texts xs xs) (same_text x) (same_texts_self xs)
+same_texts_self (x ∷ xs) = and_from (bytes_eq x x) (same_texts xs xs) (same_text x) (same_texts_self xs)
 
 same_lexeme_self : (a : Lexeme) → same_lexeme a a ≡ true
 same_lexeme_self (a_name a) = same_text a
@@ -104,7 +101,7 @@ same_lexeme_self (a_word a) = true_same word_row.the_type a a refl
 same_lexeme_self (a_mark a) = true_same mark_row.the_type a a refl
 
 is_token_self : (note : Bool) (lexeme : Lexeme) → is_token note lexeme (spelled note lexeme) ≡ true
-is_token_self note lexeme = both_true (beq note note) (same_lexeme lexeme lexeme) ((booleans_Decides note note).1 refl) (same_lexeme_self lexeme)
+is_token_self note lexeme = and_from (beq note note) (same_lexeme lexeme lexeme) ((booleans_Decides note note).1 refl) (same_lexeme_self lexeme)
 
 token_leaves : (note : Bool) (lexeme : Lexeme) (events : List Event) → Leaves (takes_token note lexeme) (spelled note lexeme ∷ events) events
 token_leaves note lexeme events = record { at = (first_leaves {p = takes_nothing} fails (is_token note lexeme (spelled note lexeme)) (is_token_self note lexeme) (nothing_leaves events)).at }
@@ -261,7 +258,7 @@ node_complete {note = note} {place = place} {n = n} {events = events} {rest = re
     plainly : (events rest : List Event) → SpellsLine note (line place (kind_of n) (text_of n)) n (kids_of n) events rest → Leaves (plain_ways (kind_of n) (text_of n) (notes_of n) ws note place) events rest
     plainly events rest d = guard_leaves (stands note place (kind_of n) (text_of n)) stood
         (guard_leaves (has_place (line place (kind_of n) (text_of n)) (text_of n) && consistent (kind_of n) (text_of n) ws)
-        (both_true (has_place (line place (kind_of n) (text_of n)) (text_of n)) (consistent (kind_of n) (text_of n) ws) h (sym (consistent_same (kind_of n) (text_of n) (all_sound all)) ∙ c))
+        (and_from (has_place (line place (kind_of n) (text_of n)) (text_of n)) (consistent (kind_of n) (text_of n) ws) h (sym (consistent_same (kind_of n) (text_of n) (all_sound all)) ∙ c))
         (line_complete d ws all))
 
     around : (events : List Event) → Leaves (plain_ways (kind_of n) (text_of n) (notes_of n) ws note place) events rest → Leaves (node_ways (kind_of n) (text_of n) (notes_of n) ws note place) events rest
@@ -274,7 +271,7 @@ node_complete {note = note} {place = place} {n = n} {rest = rest} (in_parenthese
   at = has_right (plain_ways (kind_of n) (text_of n) (notes_of n) ws note place (spelled note (a_mark mark.Open) ∷ events))
       (guard_leaves {p = λ all. flat_map (takes_token note (a_mark mark.Close)) (bracketed note (plain_ways (kind_of n) (text_of n) (notes_of n) ws note) choice.Expr events)} {events = spelled note (a_mark mark.Open) ∷ events}
       (opens place && is_token note (a_mark mark.Open) (spelled note (a_mark mark.Open)))
-      (both_true (opens place) (is_token note (a_mark mark.Open) (spelled note (a_mark mark.Open))) o (is_token_self note (a_mark mark.Open)))
+      (and_from (opens place) (is_token note (a_mark mark.Open) (spelled note (a_mark mark.Open))) o (is_token_self note (a_mark mark.Open)))
       record { at = has_flat (takes_token note (a_mark mark.Close)) (node_complete d ws all).at (token_leaves note (a_mark mark.Close) rest).at }).at;
 }
 
@@ -283,19 +280,19 @@ kid_complete : {note : Bool} {shape : Shape} {n : Node} {events rest : List Even
 kid_complete {n = n} (one q d) ws all = guard_leaves (is_silent n) q (node_complete d ws all)
 kid_complete {note = note} {n = n} {events = events} {rest = rest} (any {place = place} l d) ws all = guard_leaves (is_list n) l (members_complete all note place true (notes_of n) events rest d)
 kid_complete {note = note} {n = n} {events = events} {rest = rest} (many {place = place} l z d) ws all =
-    guard_leaves (is_list n && not (is_empty ws)) (both_true (is_list n) (not (is_empty ws)) l (ap not (sym (empty_same (all_sound all)) ∙ z)))
+    guard_leaves (is_list n && not (is_empty ws)) (and_from (is_list n) (not (is_empty ws)) l (ap not (sym (empty_same (all_sound all)) ∙ z)))
     (members_complete all note place true (notes_of n) events rest d)
 kid_complete {note = note} {n = n} {events = events} {rest = rest} (listed {place = place} {m = m} l q d) ws all =
-    guard_leaves (is_list n && is_silent n) (both_true (is_list n) (is_silent n) l q) (listed_complete all note place m events rest d)
+    guard_leaves (is_list n && is_silent n) (and_from (is_list n) (is_silent n) l q) (listed_complete all note place m events rest d)
 kid_complete {note = note} {n = n} {events = events} {rest = rest} (some_listed {place = place} {m = m} l q d) ws all =
     left_leaves (guarded (is_list n && is_silent n && is_empty ws) takes_nothing)
-    (guard_leaves (is_list n && is_silent n) (both_true (is_list n) (is_silent n) l q) (listed_complete all note place m events rest d))
+    (guard_leaves (is_list n && is_silent n) (and_from (is_list n) (is_silent n) l q) (listed_complete all note place m events rest d))
 kid_complete {note = note} {n = n} {rest = rest} (none_listed {place = place} {m = m} e) ws all =
     right_leaves (guarded (is_list n && is_silent n) (listed_ways ws note place m))
     (guard_leaves (is_list n && is_silent n && is_empty ws) (ap (λ (b : Bool). is_list n && is_silent n && b) (sym (empty_same (all_sound all))) ∙ e) (nothing_leaves rest))
 kid_complete {note = note} {n = n} {rest = rest} (some_variables {events = events} l q d) ws all =
     left_leaves (guarded (is_list n && is_silent n && is_empty ws) takes_nothing)
-    (guard_leaves (is_list n && is_silent n) (both_true (is_list n) (is_silent n) l q)
+    (guard_leaves (is_list n && is_silent n) (and_from (is_list n) (is_silent n) l q)
     (sequence_leaves (token_leaves note (a_word word.For) (spelled note (a_word word.All) ∷ events)) (sequence_leaves (token_leaves note (a_word word.All) events)
     (listed_complete all note (choice.Only kind.Vars) mark.Semicolon events rest d))))
 kid_complete {note = note} {n = n} {rest = rest} (no_variables e) ws all =
@@ -307,7 +304,7 @@ layer_complete n ws all = record {
   sound = layer_sound n ws (all_sound all);
   node = λ note place events rest d. node_complete d ws all;
   kid = λ note shape events rest d. kid_complete d ws all;
-  arguments = λ note those events rest l q d. guard_leaves (is_list n && is_silent n) (both_true (is_list n) (is_silent n) l q) (arguments_complete those all note events rest d);
+  arguments = λ note those events rest l q d. guard_leaves (is_list n && is_silent n) (and_from (is_list n) (is_silent n) l q) (arguments_complete those all note events rest d);
 }
 
 grown_complete : (k : Kind) (text : List ℕ) (notes : List (List ℕ)) (ns : List Node) (ws : List Ways) → AllComplete ws ns → Complete (all_ways k text notes ws) (node_of k text notes ns)

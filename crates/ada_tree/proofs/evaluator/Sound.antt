@@ -1,5 +1,6 @@
 -- Each way to read a node gives rests that its spellings leave.
 use Rattle.std.proofs.Common.{◌≡◌, ℕ, zero, suc, List, [], ◌∷◌, drop, Bool, true, false, not, ◌&&◌, ◌||◌, refl, sym, ◌∙◌, ap, subst, Option, Some, None, flat_map, bytes_eq}
+use Rattle.std.proofs.lemmas.Bool.{not-true, and_parts}
 use Rattle.std.specs.List.{list_all}
 use Rattle.ada_tree.specs.declared.kind.Kind.{Kind}
 use Rattle.ada_tree.specs.declared.kind.Kind.TheVariants as kind
@@ -25,7 +26,7 @@ use Rattle.ada_tree.specs.Rules.{arguments_of}
 use Rattle.ada_tree.specs.Texts.{fits_own, own_items, may_be_omitted, is_comment}
 use Rattle.ada_tree.specs.Spelling.{after_end, has_place, are_components, is_consistent, starts_with_comments, ends_with_comments, keeps_comments, argument_place, listed_place, SpellsNode, SpellsKid, SpellsMembers, SpellsListed, SpellsLine, SpellsArguments, by_line, in_parentheses, one, any, many, listed, some_listed, none_listed, some_variables, no_variables, end_with_comments, end_without, member_with_comments, member_without, last, and_more, done, its_word, its_mark, its_text, omitted, its_kid, its_members, its_arguments, given, left_out, shown, hidden, laid_out, note_begins, note_ends, no_more, an_argument, in_number, no_in_number, a_list, no_list}
 use Rattle.ada_tree.proofs.Trees.{Tree, Forest, tree, no_trees, ◌&◌, grown, all_grown, folded, all_folded}
-use Rattle.ada_tree.proofs.evaluator.Ways.{and_true, Every, no_element, every_append, every_flat, every_map, Way, guarded, is_token, token_is, takes_token, Gives, fails_gives, nothing_gives, sequence_gives, either_gives, choose_gives, guarded_gives, token_gives, tokens_give, comments_give, after_token, after_comments, before_token, weaker}
+use Rattle.ada_tree.proofs.evaluator.Ways.{Every, no_element, every_append, every_flat, every_map, Way, guarded, is_token, token_is, takes_token, Gives, fails_gives, nothing_gives, sequence_gives, either_gives, choose_gives, guarded_gives, token_gives, tokens_give, comments_give, after_token, after_comments, before_token, weaker}
 use Rattle.ada_tree.proofs.evaluator.Lines.{Ways, silent, empty_list, left_out_part, empty_lists, are_component_ways, consistent, member_ways, listed_ways, placed, with_first, in_number_ways, list_argument_ways, last_argument_ways, argument_ways, line_ways, plain_ways, bracketed, kid_ways, node_ways, all_ways, layer_ways}
 
 -- as the arguments of a step
@@ -105,10 +106,6 @@ consistent_same _ text all = refl
 no_notes : (notes : List (List ℕ)) → is_empty notes ≡ true → notes ≡ []
 no_notes [] h = refl
 no_notes (x ∷ xs) h = absurd cc
-
-not_true : (b : Bool) → not b ≡ true → b ≡ false
-not_true true h = absurd cc
-not_true false h = refl
 
 -- ---- lists
 
@@ -206,7 +203,7 @@ line_sound (Members place ∷ piece ∷ pieces) false note n all = fails_gives
 line_sound (Arguments ∷ pieces) false note n all =
     first_gives (SpellsLine note (Arguments ∷ pieces) n) all
     (λ w more k ks s alls. sequence_gives (s.arguments note (arguments_of (text_of n))) (line_sound pieces false note n alls)
-    (λ events middle rest d ds. let p = and_true (is_list k) (is_silent k) d.0 in its_arguments p.0 p.1 d.1 ds))
+    (λ events middle rest d ds. let p = and_parts (is_list k) (is_silent k) d.0 in its_arguments p.0 p.1 d.1 ds))
 line_sound (Optional ∷ pieces) false note n all = either_gives
     (weaker (line_sound pieces false note n all) (λ events rest d. given d))
     (first_gives (SpellsLine note (Optional ∷ pieces) n) all
@@ -228,7 +225,7 @@ line_sound (NoteOff ∷ pieces) false false n all = fails_gives
 plain_sound : (n : Node) (ws : List Ways) → AllSound ws (kids_of n) → (note : Bool) (place : Choice) → Gives (plain_ways (kind_of n) (text_of n) (notes_of n) ws note place) (SpellsNode note place n)
 plain_sound n ws all note place =
     guarded_gives (stands note place (kind_of n) (text_of n)) (λ stood. guarded_gives (has_place (line place (kind_of n) (text_of n)) (text_of n) && consistent (kind_of n) (text_of n) ws) (λ h.
-    let p = and_true (has_place (line place (kind_of n) (text_of n)) (text_of n)) (consistent (kind_of n) (text_of n) ws) h in
+    let p = and_parts (has_place (line place (kind_of n) (text_of n)) (text_of n)) (consistent (kind_of n) (text_of n) ws) h in
     weaker (line_sound (line place (kind_of n) (text_of n)) false note n all)
     (λ events rest d. by_line stood p.0 (consistent_same (kind_of n) (text_of n) all ∙ p.1) d)))
 
@@ -243,7 +240,7 @@ bracketed_every note plain n g place (event ∷ events) =
         → Every (SpellsNode note place n (event ∷ events)) (guarded test (λ all. flat_map (takes_token note (a_mark mark.Close)) (bracketed note plain choice.Expr events)) (event ∷ events))
     by_test each false e = no_element
     by_test each true e =
-        let p = and_true (opens place) (is_token note (a_mark mark.Open) event) e in
+        let p = and_parts (opens place) (is_token note (a_mark mark.Open) event) e in
         every_flat (takes_token note (a_mark mark.Close))
         (λ middle d. every_map (takes_token note (a_mark mark.Close) middle)
         (λ rest closed. subst (λ (x : Event). SpellsNode note place n (x ∷ events) rest) (sym (token_is note (a_mark mark.Open) event p.1)) (in_parentheses p.0 (subst (SpellsNode note choice.Expr n events) closed d)))
@@ -261,20 +258,20 @@ kid_sound n node ws empty note all e g (One place) = guarded_gives (is_silent n)
 kid_sound n node ws empty note all e g (Any place) = guarded_gives (is_list n) (λ l. weaker (members_sound all note place true (notes_of n)) (λ events rest d. any l d))
 kid_sound n node ws empty note all e g (Many place) =
     guarded_gives (is_list n && not (is_empty ws)) (λ h.
-    let p = and_true (is_list n) (not (is_empty ws)) h in
-    weaker (members_sound all note place true (notes_of n)) (λ events rest d. many p.0 (empty_same all ∙ not_true (is_empty ws) p.1) d))
+    let p = and_parts (is_list n) (not (is_empty ws)) h in
+    weaker (members_sound all note place true (notes_of n)) (λ events rest d. many p.0 (empty_same all ∙ not-true (is_empty ws) p.1) d))
 kid_sound n node ws empty note all e g (Listed place m) =
     guarded_gives (is_list n && is_silent n) (λ h.
-    let p = and_true (is_list n) (is_silent n) h in
+    let p = and_parts (is_list n) (is_silent n) h in
     weaker (listed_sound all note place m) (λ events rest d. listed p.0 p.1 d))
 kid_sound n node ws empty note all e g (MaybeListed place m) = either_gives
     (guarded_gives (is_list n && is_silent n) (λ h.
-    let p = and_true (is_list n) (is_silent n) h in
+    let p = and_parts (is_list n) (is_silent n) h in
     weaker (listed_sound all note place m) (λ events rest d. some_listed p.0 p.1 d)))
     (guarded_gives empty (λ h. nothing_gives (λ events. none_listed (e ∙ h))))
 kid_sound n node ws empty note all e g ForAll = either_gives
     (guarded_gives (is_list n && is_silent n) (λ h.
-    let p = and_true (is_list n) (is_silent n) h in
+    let p = and_parts (is_list n) (is_silent n) h in
     after_token {S = λ events rest. SpellsKid note ForAll n (spelled note (a_word word.For) ∷ events) rest} note (a_word word.For)
     (after_token note (a_word word.All) (listed_sound all note (choice.Only kind.Vars) mark.Semicolon) (λ events rest d. some_variables p.0 p.1 d))
     (λ events rest d. d)))

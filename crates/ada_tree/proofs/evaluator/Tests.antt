@@ -1,5 +1,6 @@
 -- Tests that compute whether events spell a tree, and whether tokens and comments are read as one, and that they are right where they pass. Nothing is shown of what doesn't pass.
 use Rattle.std.proofs.Common.{◌≡◌, ℕ, ◌+◌, ◌≤◌, List, [], ◌∷◌, ◌++◌, Bool, true, false, ◌&&◌, ◌||◌, if◌then◌else◌, nat_le, refl, sym, ◌∙◌, ap, subst, leb-true}
+use Rattle.std.proofs.lemmas.Bool.{and_parts}
 use Rattle.std.specs.List.{list_any, list_all}
 use Rattle.ada_tree.specs.declared.kind.Kind.{Kind}
 use Rattle.ada_tree.specs.declared.kind.Kind.TheVariants as kind
@@ -14,7 +15,7 @@ use Rattle.ada_tree.specs.Spelling.{keeps_comments, SpellsNode}
 use Rattle.ada_tree.specs.Reading.{Attached, dropped, waits, taken, passed, most_nested, most_steps, most_open, open_in, IsNested, takes_comments, IsReading}
 use Rattle.ada_tree.specs.Fits.{Fits}
 use Rattle.ada_tree.proofs.Trees.{Tree, tree, grown, all_grown, folded, fold_grown, tree_notes}
-use Rattle.ada_tree.proofs.evaluator.Ways.{and_true, same_texts, same_texts_are, is_token, token_is, every_empty}
+use Rattle.ada_tree.proofs.evaluator.Ways.{same_texts, same_texts_are, is_token, token_is, every_empty}
 use Rattle.ada_tree.proofs.evaluator.Lines.{Ways, layer_ways}
 use Rattle.ada_tree.proofs.evaluator.Sound.{tree_sound}
 
@@ -52,7 +53,7 @@ is_attached waiting events (token note lexeme ∷ signs) = is_passed note lexeme
 dropped_of : (waiting : List (List ℕ)) (events : List Event) → is_dropped waiting events ≡ true → Attached waiting events []
 dropped_of waiting [] h = dropped
 dropped_of waiting (comments notes ∷ events) h =
-    let p = and_true (same_texts notes waiting) (is_dropped [] events) h in
+    let p = and_parts (same_texts notes waiting) (is_dropped [] events) h in
     subst (λ (texts : List (List ℕ)). Attached waiting (comments texts ∷ events) []) (sym (same_texts_are notes waiting p.0)) (taken refl (dropped_of [] events p.1))
 dropped_of waiting (spelled note lexeme ∷ events) h = absurd cc
 
@@ -60,11 +61,11 @@ passed_of : (note : Bool) (lexeme : Lexeme) (signs : List Sign) (others : List (
     → (waiting : List (List ℕ)) (events : List Event) → is_passed note lexeme others waiting events ≡ true → Attached waiting events (token note lexeme ∷ signs)
 passed_of note lexeme signs others shown waiting [] h = absurd cc
 passed_of note lexeme signs others shown waiting (comments notes ∷ events) h =
-    let p = and_true (same_texts notes waiting) (is_passed note lexeme others [] events) h in
+    let p = and_parts (same_texts notes waiting) (is_passed note lexeme others [] events) h in
     subst (λ (texts : List (List ℕ)). Attached waiting (comments texts ∷ events) (token note lexeme ∷ signs)) (sym (same_texts_are notes waiting p.0))
     (taken refl (passed_of note lexeme signs others shown [] events p.1))
 passed_of note lexeme signs others shown waiting (spelled other_note other ∷ events) h =
-    let p = and_true (is_token note lexeme (spelled other_note other)) (others waiting events) h in
+    let p = and_parts (is_token note lexeme (spelled other_note other)) (others waiting events) h in
     subst (λ (event : Event). Attached waiting (event ∷ events) (token note lexeme ∷ signs)) (sym (token_is note lexeme (spelled other_note other) p.0)) (passed (shown waiting events p.1))
 
 pub attached_of : (waiting : List (List ℕ)) (events : List Event) (signs : List Sign) → is_attached waiting events signs ≡ true → Attached waiting events signs
@@ -84,7 +85,7 @@ is_within_limits t = nat_le (nesting is_nested t) most_nested && nat_le (nesting
 
 nested_of : (t : Tree) → is_within_limits t ≡ true → IsNested (grown t)
 nested_of t h =
-    let p = and_true (nat_le (nesting is_nested t) most_nested) (nat_le (nesting is_step t) most_steps) h in
+    let p = and_parts (nat_le (nesting is_nested t) most_nested) (nat_le (nesting is_step t) most_steps) h in
     record {
       nodes = subst (λ (n : ℕ). n ≤ most_nested) (sym (same is_nested)) (leb-true (nesting is_nested t) most_nested p.0);
       steps = subst (λ (n : ℕ). n ≤ most_steps) (sym (same is_step)) (leb-true (nesting is_step t) most_steps p.1);
@@ -109,10 +110,10 @@ is_read note place events signs t = is_spelled note place t events && (tree_comm
 
 pub reads_grown : (note : Bool) (place : Choice) (events : List Event) (signs : List Sign) (t : Tree) → is_read note place events signs t ≡ true → IsReading note place signs (grown t)
 reads_grown note place events signs t h =
-    let p = and_true (is_spelled note place t events) (tree_comments_fit place t && (is_attached [] (tree_standing place t events) signs && (is_within_limits t && nat_le (open_in 0 signs) most_open))) h in
-    let o = and_true (tree_comments_fit place t) (is_attached [] (tree_standing place t events) signs && (is_within_limits t && nat_le (open_in 0 signs) most_open)) p.1 in
-    let q = and_true (is_attached [] (tree_standing place t events) signs) (is_within_limits t && nat_le (open_in 0 signs) most_open) o.1 in
-    let r = and_true (is_within_limits t) (nat_le (open_in 0 signs) most_open) q.1 in
+    let p = and_parts (is_spelled note place t events) (tree_comments_fit place t && (is_attached [] (tree_standing place t events) signs && (is_within_limits t && nat_le (open_in 0 signs) most_open))) h in
+    let o = and_parts (tree_comments_fit place t) (is_attached [] (tree_standing place t events) signs && (is_within_limits t && nat_le (open_in 0 signs) most_open)) p.1 in
+    let q = and_parts (is_attached [] (tree_standing place t events) signs) (is_within_limits t && nat_le (open_in 0 signs) most_open) o.1 in
+    let r = and_parts (is_within_limits t) (nat_le (open_in 0 signs) most_open) q.1 in
     record {
       events = events;
       spelling = spells_grown note place t events p.0;
@@ -127,5 +128,5 @@ fits events t = is_spelled false (choice.Only kind.Doc) t events && is_within_li
 
 pub fits_grown : (events : List Event) (t : Tree) → fits events t ≡ true → Fits (grown t)
 fits_grown events t h =
-    let p = and_true (is_spelled false (choice.Only kind.Doc) t events) (is_within_limits t) h in
+    let p = and_parts (is_spelled false (choice.Only kind.Doc) t events) (is_within_limits t) h in
     record { events = events; spelling = spells_grown false (choice.Only kind.Doc) t events p.0; nested = nested_of t p.1 }

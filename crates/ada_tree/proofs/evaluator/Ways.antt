@@ -1,5 +1,6 @@
 -- Ways to read: each gives all rests that it may leave of some events. What a way gives is shown by parts.
 use Rattle.std.proofs.Common.{◌≡◌, ℕ, List, [], ◌∷◌, ◌++◌, Bool, true, false, ◌&&◌, refl, sym, ◌∙◌, ap, subst, flat_map, bytes_eq}
+use Rattle.std.proofs.lemmas.Bool.{and_parts}
 use Rattle.std.specs.List.{list_any}
 use Rattle.std.specs.Cmp.{booleans_Decides}
 use Rattle.std.proofs.lemmas.Slice.Eq.{bytes_eq-Decides}
@@ -12,10 +13,6 @@ use Rattle.ada_tree.specs.Tokens.{Lexeme, a_name, a_number, a_word, a_mark, Even
 
 -- ---- tests
 
-pub and_true : (a b : Bool) → (a && b) ≡ true → (a ≡ true) × (b ≡ true)
-and_true true b h = (refl, h)
-and_true false b h = absurd cc
-
 abbrev pub same_texts : List (List ℕ) → List (List ℕ) → Bool
 same_texts [] [] = true
 same_texts (x ∷ xs) (y ∷ ys) = bytes_eq x y && same_texts xs ys
@@ -26,7 +23,7 @@ same_texts_are [] [] h = refl
 same_texts_are [] (y ∷ ys) h = absurd cc
 same_texts_are (x ∷ xs) [] h = absurd cc
 same_texts_are (x ∷ xs) (y ∷ ys) h =
-    let p = and_true (bytes_eq x y) (same_texts xs ys) h in
+    let p = and_parts (bytes_eq x y) (same_texts xs ys) h in
     ap (λ (z : List ℕ). z ∷ xs) ((bytes_eq-Decides x y).0 p.0) ∙ ap (λ (zs : List (List ℕ)). y ∷ zs) (same_texts_are xs ys p.1)
 
 abbrev pub same_lexeme : Lexeme → Lexeme → Bool
@@ -49,7 +46,7 @@ is_token note lexeme (comments notes) = false
 
 pub token_is : (note : Bool) (lexeme : Lexeme) (event : Event) → is_token note lexeme event ≡ true → event ≡ spelled note lexeme
 token_is note lexeme (spelled other_note other) h =
-    let p = and_true (beq note other_note) (same_lexeme lexeme other) h in
+    let p = and_parts (beq note other_note) (same_lexeme lexeme other) h in
     sym (ap (λ (b : Bool). spelled b lexeme) ((booleans_Decides note other_note).0 p.0) ∙ ap (spelled other_note) (same_lexeme_is lexeme other p.1))
 token_is note lexeme (comments notes) h = absurd cc
 

@@ -1,5 +1,6 @@
 -- Items: how they begin, and how their tokens and comments belong to events.
-use Rattle.std.proofs.Common.{◌≡◌, ℕ, List, [], ◌∷◌, ◌++◌, refl, ap, subst, Bool, true, false, Option, Some, None, if◌then◌else◌, append_assoc}
+use Rattle.std.proofs.Common.{◌≡◌, ℕ, List, [], ◌∷◌, ◌++◌, refl, subst, Bool, true, false, Option, Some, None, if◌then◌else◌, append_assoc}
+use Rattle.std.proofs.lemmas.List.{append-nil}
 use Rattle.std.specs.Prelude.{bytes_eq, codes, ◌==◌}
 use Rattle.std.specs.List.{list_any, list_all, flat_map, slice_split, before_first, after_first}
 use Rattle.ada_tree.specs.declared.word.Word.TheVariants as word
@@ -156,13 +157,9 @@ tokens_pass note rest (comment_line text ∷ items) t a = absurd cc
 
 -- ---- comments are taken where they stand
 
-pub append_nil : {A : Type 0} (xs : List A) → xs ++ [] ≡ xs
-append_nil [] = refl
-append_nil (x ∷ xs) = ap (λ ys. x ∷ ys) (append_nil xs)
-
 take_waiting : (note : Bool) (rest : List Item) {events : List Event} (waiting notes : List (List ℕ)) → begins_with_comment (signs note rest) ≡ false → Attached [] events (signs note rest)
     → Attached waiting (comments (waiting ++ notes) ∷ events) (signs note (comment_lines notes ++ rest))
-take_waiting note rest waiting [] b a = rw append_nil (taken b a)
+take_waiting note rest waiting [] b a = rw append-nil (taken b a)
 take_waiting note rest {events = events} waiting (text ∷ notes) b a =
     waits (subst (λ all. Attached (waiting ++ text ∷ []) (comments all ∷ events) (signs note (comment_lines notes ++ rest))) (append_assoc waiting (text ∷ []) notes)
     (take_waiting note rest (waiting ++ text ∷ []) notes b a))

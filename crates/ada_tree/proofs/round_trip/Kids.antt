@@ -1,5 +1,6 @@
 -- Kids, by their shapes.
 use Rattle.std.proofs.Common.{◌≡◌, List, [], ◌∷◌, ◌++◌, refl, ◌∙◌, ap, Bool, true, false}
+use Rattle.std.proofs.lemmas.Bool.{and_from}
 use Rattle.ada_tree.specs.declared.kind.Kind.TheVariants as kind
 use Rattle.ada_tree.specs.declared.word.Word.TheVariants as word
 use Rattle.ada_tree.specs.declared.word.Mark.{Mark}
@@ -15,7 +16,7 @@ use Rattle.ada_tree.specs.Items.{Item, put}
 use Rattle.ada_tree.specs.Reading.{passed}
 use Rattle.ada_tree.specs.Spelling
 use Rattle.ada_tree.specs.Canonical.{separated, for_all}
-use Rattle.ada_tree.proofs.round_trip.Places.{both, both_true, same_kind}
+use Rattle.ada_tree.proofs.round_trip.Places.{both, same_kind}
 use Rattle.ada_tree.proofs.round_trip.Lines.{uncommented}
 use Rattle.ada_tree.proofs.round_trip.Written.{as_written, all_written, IsNodeWritten, IsKidWritten, AreMembersWritten, AreListedWritten}
 use Rattle.ada_tree.proofs.round_trip.Layouts.{kid_at, no_kids}
@@ -40,7 +41,7 @@ any_kid {note = note} {place = place} {node = node} l all = record {
   attached = λ rest items s f a. rw (kid_at (Any place) node) (all.attached rest items s f a);
   plain = λ items p h. let facts = uncommented place (both p).1 in rw (kid_at (Any place) node) (all.plain items (both p).0 facts.starts facts.ends facts.unkept h);
   there = λ s. list_there node l;
-  bare = λ h e. both_true _ _ (both_true _ _ l (all.silent (uncommented place h).ends)) e;
+  bare = λ h e. and_from _ _ (and_from _ _ l (all.silent (uncommented place h).ends)) e;
 }
 
 pub many_kid : {note : Bool} {place : Choice} {node : Node} → is_list node ≡ true → is_empty (kids_of node) ≡ false → AreMembersWritten note place true (kids_of node) (notes_of node) → IsKidWritten note (Many place) node

@@ -1,5 +1,6 @@
 -- What is written canonically is read back: from any spelling of a node follows its canonical one, and its comments stand in the canonical text where they belong.
 use Rattle.std.proofs.Common.{◌≡◌, ℕ, List, [], refl, subst, Bool, true, false}
+use Rattle.std.proofs.lemmas.List.{append-nil}
 use Rattle.ada_tree.specs.declared.kind.Kind.TheVariants as kind
 use Rattle.ada_tree.specs.declared.word.Mark.{Mark}
 use Rattle.ada_tree.specs.declared.grammar.Choice.{Choice}
@@ -15,7 +16,6 @@ use Rattle.ada_tree.specs.Reading.{Attached, dropped}
 use Rattle.ada_tree.specs.Spelling.{SpellsNode, SpellsKid, SpellsMembers, SpellsListed, SpellsLine, SpellsArguments, by_line, in_parentheses, one, any, many, listed, some_listed, none_listed, some_variables, no_variables, end_with_comments, end_without, member_with_comments, member_without, last, and_more, done, its_word, its_mark, its_text, omitted, its_kid, its_members, its_arguments, given, left_out, shown, hidden, laid_out, note_begins, note_ends, no_more, an_argument, in_number, no_in_number, a_list, no_list}
 use Rattle.ada_tree.specs.Canonical.{items_of}
 use Rattle.ada_tree.proofs.round_trip.Places.{is_proper}
-use Rattle.ada_tree.proofs.round_trip.Items.{append_nil}
 use Rattle.ada_tree.proofs.round_trip.Written.{as_it_is, IsLineWritten, IsStripped, IsNodeWritten, IsKidWritten, AreMembersWritten, AreListedWritten, AreArgumentsWritten, node_items}
 use Rattle.ada_tree.proofs.round_trip.Nodes.{node_written, in_superfluous}
 use Rattle.ada_tree.proofs.round_trip.Lists.{no_members_commented, no_members, member_commented, member_uncommented, last_listed, more_listed, no_arguments, one_argument, number_after_in, no_number_after_in, list_argument, no_list_argument}
@@ -90,7 +90,7 @@ written_as {note = note} {place = place} {node = node} p d =
     record {
       events = own.events [];
       spelling = own.spelling [];
-      attached = subst (λ items. Attached [] (own.events []) (signs note items)) (append_nil (node_items place node)) (own.attached [] [] p (λ o. refl) dropped);
+      attached = subst (λ items. Attached [] (own.events []) (signs note items)) (append-nil (node_items place node)) (own.attached [] [] p (λ o. refl) dropped);
     }
 
 pub reads_back : (node : Node) (events : List Event) → SpellsNode false (Only kind.File) node events [] → IsWrittenAs false (Only kind.File) node

@@ -1,5 +1,6 @@
 -- What is laid out of parts that may be left out, of proof steps' arguments, and of kids.
 use Rattle.std.proofs.Common.{◌≡◌, ℕ, suc, zero, List, [], ◌∷◌, ◌++◌, refl, ◌∙◌, ap, Bool, true, false, Some, drop}
+use Rattle.std.proofs.lemmas.Bool.{and_from}
 use Rattle.std.proofs.lemmas.List.{drop-map}
 use Rattle.ada_tree.specs.declared.kind.Kind.TheVariants as kind
 use Rattle.ada_tree.specs.declared.grammar.Choice.{Choice}
@@ -14,7 +15,7 @@ use Rattle.ada_tree.specs.Kinds.{is_kind}
 use Rattle.ada_tree.specs.Nodes.{text_of, notes_of, kids_of, is_empty, is_none, is_empty_list, are_empty}
 use Rattle.ada_tree.specs.Spelling.{after_end, argument_place, listed_place}
 use Rattle.ada_tree.specs.Canonical.{Written, written_line, written_at, arguments, argument_list, are_bare, is_left_out}
-use Rattle.ada_tree.proofs.round_trip.Places.{both, both_true}
+use Rattle.ada_tree.proofs.round_trip.Places.{both}
 use Rattle.ada_tree.proofs.round_trip.Written.{as_written, all_written, opened, layer_of, line_items, node_items}
 
 -- ---- parts that may be left out
@@ -51,7 +52,7 @@ bare_at node = ap (λ (w : Written). w.is_bare) (opened node) ∙ is_empty-all_w
 empty_are_bare : (count : ℕ) (kids : List Node) → are_empty count kids ≡ true → are_bare count (all_written kids) ≡ true
 empty_are_bare zero kids h = refl
 empty_are_bare (suc count) [] h = h
-empty_are_bare (suc count) (kid ∷ kids) h = both_true _ _ (bare_at kid ∙ (both (both h).0).1) (empty_are_bare count kids (both h).1)
+empty_are_bare (suc count) (kid ∷ kids) h = and_from _ _ (bare_at kid ∙ (both (both h).0).1) (empty_are_bare count kids (both h).1)
 
 pub hidden_items : (count : ℕ) (pieces : List Piece) (node : Node) (kids : List Node) → are_empty count kids ≡ true → line_items (Shown count ∷ pieces) node kids ≡ line_items (after_end pieces) node (drop count kids)
 hidden_items count pieces node kids e =
@@ -78,10 +79,10 @@ list_items _ place ks h = absurd cc
 pub kid_at : (shape : Shape) (node : Node) → (as_written node).at shape ≡ written_at (layer_of node) shape
 kid_at shape node = ap (λ (w : Written). w.at shape) (opened node)
 
+pub nothing : {A : Type 0} (xs : List A) → is_empty xs ≡ true → xs ≡ []
+nothing [] h = refl
+nothing (x ∷ xs) h = absurd cc
+
 -- a list without members is written as nothing
 pub no_kids : (node : Node) → is_empty_list node ≡ true → kids_of node ≡ []
 no_kids node h = nothing (kids_of node) (both h).1
-  where
-    nothing : (nodes : List Node) → is_empty nodes ≡ true → nodes ≡ []
-    nothing [] h = refl
-    nothing (node ∷ nodes) h = absurd cc

@@ -1,5 +1,6 @@
 -- What the round trip asks of the lines of the grammar, tested on each of them.
 use Rattle.std.proofs.Common.{◌≡◌, ℕ, suc, zero, List, [], ◌∷◌, refl, Bool, true, false, not, ◌&&◌, ◌||◌, Option, Some, None, if◌then◌else◌}
+use Rattle.std.proofs.lemmas.Bool.{not-true}
 use Rattle.ada_tree.specs.declared.kind.Kind.{Kind}
 use Rattle.ada_tree.specs.declared.kind.Kind.TheVariants as kind
 use Rattle.ada_tree.specs.declared.grammar.Choice.{Choice}
@@ -16,7 +17,7 @@ use Rattle.ada_tree.specs.Operators.{operator_of}
 use Rattle.ada_tree.specs.Choices.{comments_of}
 use Rattle.ada_tree.specs.Lines.{line, operator_line, unary_line}
 use Rattle.ada_tree.specs.Spelling.{after_end, starts_with_comments, ends_with_comments, keeps_comments}
-use Rattle.ada_tree.proofs.round_trip.Places.{both, not_true, is_open_kind, is_open, is_plain_kind, is_plain, is_sure_kind, is_sure, is_improper_kind, is_proper}
+use Rattle.ada_tree.proofs.round_trip.Places.{both, is_open_kind, is_open, is_plain_kind, is_plain, is_sure_kind, is_sure, is_improper_kind, is_proper}
 
 abbrev implies : Bool → Bool → Bool
 implies a b = not a || b
@@ -50,12 +51,12 @@ sound_list place h =
     let front = (both h).0 in
     record {
       proper = (both (both front).0).0;
-      unkept = not_true _ (both (both front).0).1;
+      unkept = not-true _ (both (both front).0).1;
       starts_plain = λ e. (both (given_true (both front).1 e)).0;
       starts_sure = λ e. (both (given_true (both front).1 e)).1;
       open_plain = λ e. (both (both (given_true (both h).1 e)).0).0;
-      open_starts = λ e. not_true _ (both (both (given_true (both h).1 e)).0).1;
-      open_ends = λ e. not_true _ (both (given_true (both h).1 e)).1;
+      open_starts = λ e. not-true _ (both (both (given_true (both h).1 e)).0).1;
+      open_ends = λ e. not-true _ (both (given_true (both h).1 e)).1;
     }
 
 pub record IsUncommented (place : Choice) : Type 0 where
@@ -65,9 +66,9 @@ pub record IsUncommented (place : Choice) : Type 0 where
 
 pub uncommented : (place : Choice) → is_uncommented place ≡ true → IsUncommented place
 uncommented place h = record {
-  starts = not_true _ (both (both h).0).0;
-  ends = not_true _ (both (both h).0).1;
-  unkept = not_true _ (both h).1;
+  starts = not-true _ (both (both h).0).0;
+  ends = not-true _ (both (both h).0).1;
+  unkept = not-true _ (both h).1;
 }
 
 abbrev pub is_open_list : Choice → Bool

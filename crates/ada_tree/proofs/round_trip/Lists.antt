@@ -27,14 +27,10 @@ use Rattle.ada_tree.proofs.round_trip.Lines.{is_open_list, IsSoundList, sound_li
 use Rattle.ada_tree.proofs.round_trip.Items.{begin_plainly, take_comments}
 use Rattle.ada_tree.proofs.round_trip.Nodes.{parentheses_append}
 use Rattle.ada_tree.proofs.round_trip.Written.{as_written, all_written, opened, node_items, member_items, IsNodeWritten, AreMembersWritten, AreListedWritten, AreArgumentsWritten}
-use Rattle.ada_tree.proofs.round_trip.Layouts.{argument_items, list_items}
+use Rattle.ada_tree.proofs.round_trip.Layouts.{argument_items, list_items, nothing}
 
 pub notes_at : (node : Node) → (as_written node).notes ≡ notes_of node
 notes_at node = ap (λ (w : Written). w.notes) (opened node)
-
-pub nothing : {A : Type 0} (xs : List A) → is_empty xs ≡ true → xs ≡ []
-nothing [] h = refl
-nothing (x ∷ xs) h = absurd cc
 
 pub other_of : (a b : Bool) → a || b ≡ true → a ≡ false → b ≡ true
 other_of true b h e = absurd cc

@@ -1,5 +1,6 @@
 -- The canonical text of a file stays within the limit on open parentheses, where its nodes are nested within theirs.
 use Rattle.std.proofs.Common.{ℕ, ◌≤◌, List, [], subst, Bool, false, arith}
+use Rattle.std.proofs.lemmas.List.{append-nil}
 use Rattle.ada_tree.specs.declared.kind.Kind.TheVariants as kind
 use Rattle.ada_tree.specs.declared.word.Mark.{Mark}
 use Rattle.ada_tree.specs.declared.grammar.Choice.{Choice}
@@ -15,7 +16,6 @@ use Rattle.ada_tree.specs.Items.{Item, signs}
 use Rattle.ada_tree.specs.Reading.{most_nested, most_open, open_in}
 use Rattle.ada_tree.specs.Spelling.{SpellsNode, SpellsKid, SpellsMembers, SpellsListed, SpellsLine, SpellsArguments, by_line, in_parentheses, one, any, many, listed, some_listed, none_listed, some_variables, no_variables, end_with_comments, end_without, member_with_comments, member_without, last, and_more, done, its_word, its_mark, its_text, omitted, its_kid, its_members, its_arguments, given, left_out, shown, hidden, laid_out, note_begins, note_ends, no_more, an_argument, in_number, no_in_number, a_list, no_list}
 use Rattle.ada_tree.specs.Canonical.{items_of}
-use Rattle.ada_tree.proofs.round_trip.Items.{append_nil}
 use Rattle.ada_tree.proofs.round_trip.Written.{node_items, as_it_is}
 use Rattle.ada_tree.proofs.round_trip.Law.{line_back}
 use Rattle.ada_tree.proofs.round_trip.OpenedItems.{items_open, signs_open}
@@ -79,7 +79,7 @@ pub opened_at : {note : Bool} {place : Choice} {node : Node} {events rest : List
 unfolding items_of
 opened_at {note = note} {place = place} {node = node} bound d l h =
     let own = (node_opened (open_node d)).loose bound l h in
-    rw (signs_open note 0 (node_items place node)) (subst (λ (items : List Item). items_open 0 items ≤ bound) (append_nil (node_items place node)) (own.within 0 bound [] (omega arith) (omega arith)))
+    rw (signs_open note 0 (node_items place node)) (subst (λ (items : List Item). items_open 0 items ≤ bound) (append-nil (node_items place node)) (own.within 0 bound [] (omega arith) (omega arith)))
 
 pub opened_within : {events rest : List Event} (node : Node) → SpellsNode false (Only kind.File) node events rest → nesting_of is_nested node ≤ most_nested → open_in 0 (signs false (items_of (One (Only kind.File)) node)) ≤ most_open
 opened_within node d h = opened_at most_open d (omega arith) h

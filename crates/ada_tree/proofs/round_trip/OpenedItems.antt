@@ -1,5 +1,6 @@
 -- Open parentheses in items: how many are open at once, and that own texts have none.
 use Rattle.std.proofs.Common.{◌≡◌, ℕ, suc, ◌+◌, ◌-◌, ◌≤◌, List, [], ◌∷◌, ◌++◌, max, refl, sym, ◌∙◌, ap, Bool, true, false, not, ◌&&◌, ◌||◌, if◌then◌else◌, append_assoc, arith}
+use Rattle.std.proofs.lemmas.Bool.{and_from}
 use Rattle.std.specs.Prelude.{bytes_eq, codes}
 use Rattle.std.specs.List.{list_any, list_all, slice_split, before_first, after_first}
 use Rattle.std.proofs.lemmas.Slice.Eq.{bytes_eq-Decides}
@@ -13,7 +14,7 @@ use Rattle.ada_tree.specs.Tokens.{Lexeme, a_number, a_word, a_mark}
 use Rattle.ada_tree.specs.Items.{Item, put, put_small, glue, line_break, indent, outdent, note_on, note_off, comment_line, signs}
 use Rattle.ada_tree.specs.Reading.{is_mark, open_after, open_in}
 use Rattle.ada_tree.specs.Texts.{fits_own, own_items, name_items, symbol_items, rule_items, key_items, dotted, is_at_sign, is_dot}
-use Rattle.ada_tree.proofs.round_trip.Places.{both, both_true}
+use Rattle.ada_tree.proofs.round_trip.Places.{both}
 
 -- ---- how many are open
 
@@ -148,7 +149,7 @@ begin_flat false item other items i o t = rw o t
 
 are_flat-append : (front back : List Item) → are_flat front ≡ true → are_flat back ≡ true → are_flat (front ++ back) ≡ true
 are_flat-append [] back f b = b
-are_flat-append (item ∷ front) back f b = both_true _ _ (both f).0 (are_flat-append front back (both f).1 b)
+are_flat-append (item ∷ front) back f b = and_from _ _ (both f).0 (are_flat-append front back (both f).1 b)
 
 name_flat : (text : List ℕ) → are_flat (name_items text) ≡ true
 name_flat text = either_flat (list_any is_at_sign text) _ _ (begin_flat (bytes_eq (before_first is_at_sign text) (codes "return")) _ _ (glue ∷ put (a_mark mark.AtSign) ∷ glue ∷ put_small (after_first is_at_sign text) ∷ []) refl refl refl) refl

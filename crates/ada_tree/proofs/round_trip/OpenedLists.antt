@@ -1,5 +1,6 @@
 -- How many parentheses are open in members, members with a mark between them, arguments of proof steps, and kids.
 use Rattle.std.proofs.Common.{◌≡◌, ℕ, suc, ◌-◌, ◌≤◌, List, [], ◌∷◌, ◌++◌, refl, sym, subst, true, false, Some, arith}
+use Rattle.std.proofs.lemmas.Bool.{and_from}
 use Rattle.ada_tree.specs.declared.kind.Kind.TheVariants as kind
 use Rattle.ada_tree.specs.declared.word.Word.TheVariants as word
 use Rattle.ada_tree.specs.declared.word.Mark.{Mark}
@@ -15,7 +16,7 @@ use Rattle.ada_tree.specs.Tokens.{a_word, a_mark}
 use Rattle.ada_tree.specs.Items.{Item, put, line_break}
 use Rattle.ada_tree.specs.Spelling.{argument_place, listed_place}
 use Rattle.ada_tree.specs.Canonical.{separated, marked, argument_list, comment_lines, for_all}
-use Rattle.ada_tree.proofs.round_trip.Places.{both, both_true}
+use Rattle.ada_tree.proofs.round_trip.Places.{both}
 use Rattle.ada_tree.proofs.round_trip.Written.{as_written, all_written}
 use Rattle.ada_tree.proofs.round_trip.Layouts.{argument_items, list_items, kid_at, no_kids}
 use Rattle.ada_tree.proofs.round_trip.OpenedItems.{IsWithin, nothing_opened, append_opened, enclose, are_flat, flat_append, flat_opened}
@@ -52,7 +53,7 @@ last_opened m one = record {
 
 marked_opened : (place : Choice) (m : Mark) (nodes : List Node) {bound : ℕ} → is_empty nodes ≡ false → is_flat_mark m ≡ true → IsWithin false (separated place m (all_written nodes)) bound → IsWithin false (marked place m (all_written nodes)) bound
 marked_opened place m [] n f i = absurd cc
-marked_opened place m (node ∷ nodes) n f i = flat_append (put (a_mark m) ∷ []) (both_true _ _ f refl) i
+marked_opened place m (node ∷ nodes) n f i = flat_append (put (a_mark m) ∷ []) (and_from _ _ f refl) i
 
 pub more_opened : {place : Choice} {m : Mark} {node : Node} {nodes : List Node} → IsNodeOpened place node → AreListedOpened place m nodes → AreListedOpened place m (node ∷ nodes)
 more_opened {place = place} {m = m} {nodes = nodes} one others = record {

@@ -1,5 +1,6 @@
 -- How many parentheses are open in lines, piece by piece.
 use Rattle.std.proofs.Common.{◌≡◌, ℕ, ◌-◌, ◌≤◌, List, [], ◌∷◌, refl, sym, ◌∙◌, ap, Bool, true, false, not, ◌&&◌, ◌||◌, drop, arith}
+use Rattle.std.proofs.lemmas.Bool.{and_from}
 use Rattle.ada_tree.specs.declared.word.Word.{Word}
 use Rattle.ada_tree.specs.declared.word.Mark.{Mark}
 use Rattle.ada_tree.specs.declared.word.Mark.TheVariants as mark
@@ -16,7 +17,7 @@ use Rattle.ada_tree.specs.Tokens.{a_word, a_mark}
 use Rattle.ada_tree.specs.Items.{put, glue, indent, outdent, note_on, note_off}
 use Rattle.ada_tree.specs.Spelling.{after_end, is_layout}
 use Rattle.ada_tree.specs.Canonical.{Written, comment_lines}
-use Rattle.ada_tree.proofs.round_trip.Places.{both, both_true}
+use Rattle.ada_tree.proofs.round_trip.Places.{both}
 use Rattle.ada_tree.proofs.round_trip.Lines.{has_lists}
 use Rattle.ada_tree.proofs.round_trip.Written.{as_written, opened, line_items, IsLineWritten}
 use Rattle.ada_tree.proofs.round_trip.Layouts.{given_items, left_out_items, shown_items, hidden_items}
@@ -48,7 +49,7 @@ word_opened w others = record {
 pub mark_opened : {pieces : List Piece} {node : Node} {kids : List Node} (m : Mark) → IsLineOpened pieces node kids → IsLineOpened (a_mark_piece m ∷ pieces) node kids
 mark_opened {pieces = pieces} {node = node} {kids = kids} m others = record {
   loose = by_mark m;
-  tight = λ bound h n. flat_append (put (a_mark m) ∷ []) (both_true _ _ (both h).0 refl) (others.tight bound (both h).1 n);
+  tight = λ bound h n. flat_append (put (a_mark m) ∷ []) (and_from _ _ (both h).0 refl) (others.tight bound (both h).1 n);
   counted = others.counted;
 }
   where

@@ -1,5 +1,6 @@
 -- Canonical parentheses: where a node is written without them it may stand as it is, and where it is written in them they may stand.
 use Rattle.std.proofs.Common.{◌≡◌, ℕ, List, [], ◌∷◌, refl, ap, Bool, true, false, not, ◌&&◌, ◌||◌, Option, Some, None, if◌then◌else◌}
+use Rattle.std.proofs.lemmas.Bool.{not-false}
 use Rattle.std.specs.Prelude.{is_some, find, cond, bytes_eq}
 use Rattle.ada_tree.specs.declared.kind.Kind.{Kind}
 use Rattle.ada_tree.specs.declared.kind.Kind.TheVariants as kind
@@ -19,7 +20,7 @@ use Rattle.ada_tree.specs.Choices.{kinds, expression_kinds, level_of, level_on_s
 use Rattle.ada_tree.specs.Lines.{line, unary_line}
 use Rattle.ada_tree.specs.families.Expressions.{qualifier}
 use Rattle.ada_tree.specs.Canonical.{is_compound, is_loose, is_wrapped}
-use Rattle.ada_tree.proofs.round_trip.Places.{both, same_kind, not_false}
+use Rattle.ada_tree.proofs.round_trip.Places.{both, same_kind}
 
 -- ---- operators that were found
 
@@ -106,7 +107,7 @@ tight_bound note kind.Binary text w s = tight_on_side note (operator_of kind.Bin
   where
     bound : (o : Option Operator) → not (reaches_sum o) ≡ false → holds (binds_at level.Sum) o ≡ true
     bound None h = refl
-    bound (Some o) h = not_false _ h
+    bound (Some o) h = not-false _ h
 tight_bound note kind.Unary text w s = tight_on_side note (operator_of kind.Unary text) level.Sum (all_of_kind kind.Unary (binds_at level.Sum) unary_binds text) s
 tight_bound note kind.Make text w s = tight_on_side note (operator_of kind.Make text) level.Sum (all_of_kind kind.Make (binds_at level.Sum) (make_binds level.Sum) text) s
 tight_bound note kind.Member text w s = absurd cc

@@ -1,5 +1,6 @@
 -- Lines, piece by piece.
 use Rattle.std.proofs.Common.{◌≡◌, ℕ, suc, zero, List, [], ◌∷◌, ◌++◌, refl, sym, ◌∙◌, ap, subst, Bool, true, false, not, ◌||◌, drop, append_assoc, if◌then◌else◌}
+use Rattle.std.proofs.lemmas.Bool.{and_from}
 use Rattle.ada_tree.specs.declared.kind.Kind.TheVariants as kind
 use Rattle.ada_tree.specs.declared.word.Word.{Word}
 use Rattle.ada_tree.specs.declared.word.Mark.{Mark}
@@ -20,7 +21,7 @@ use Rattle.ada_tree.specs.Reading.{Attached, passed}
 use Rattle.ada_tree.specs.Spelling
 use Rattle.ada_tree.specs.Spelling.{after_end, is_layout}
 use Rattle.ada_tree.specs.Canonical.{Written, arguments, are_bare}
-use Rattle.ada_tree.proofs.round_trip.Places.{both, both_true}
+use Rattle.ada_tree.proofs.round_trip.Places.{both}
 use Rattle.ada_tree.proofs.round_trip.Lines.{given_true, is_sure_shape, has_lists, is_rule_name, plain_skipped, sound_skipped}
 use Rattle.ada_tree.proofs.round_trip.Items.{begin_plainly, own_tokens, rule_begins, tokens_begin, tokens_pass}
 use Rattle.ada_tree.proofs.round_trip.Written.{as_written, all_written, opened, line_items, IsLineWritten, IsKidWritten, AreMembersWritten, AreArgumentsWritten}
@@ -44,7 +45,7 @@ bare_kid : {note : Bool} {shape : Shape} {pieces : List Piece} {node kid : Node}
     → (count : ℕ) → has_lists (Kid shape ∷ pieces) count ≡ true → are_bare count (all_written (kid ∷ kids)) ≡ true → are_empty count (kid ∷ kids) ≡ true
 bare_kid one others zero h b = refl
 bare_kid {kid = kid} one others (suc n) h b =
-    both_true _ _ (one.bare (both h).0 (sym (bare_at kid) ∙ (both b).0)) (others.bare n (both h).1 (both b).1)
+    and_from _ _ (one.bare (both h).0 (sym (bare_at kid) ∙ (both b).0)) (others.bare n (both h).1 (both b).1)
 
 -- ---- the end of a line, words, marks and layout
 

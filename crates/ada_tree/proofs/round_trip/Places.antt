@@ -1,5 +1,6 @@
 -- What the round trip asks of the places of the grammar, and where a node may stand as it is written canonically.
 use Rattle.std.proofs.Common.{◌≡◌, ℕ, List, [], ◌∷◌, refl, sym, ◌∙◌, ap, Bool, true, false, not, ◌&&◌, ◌||◌, Option, Some, None}
+use Rattle.std.proofs.lemmas.Bool.{and_parts, not-true, not-false}
 use Rattle.std.specs.List.{list_all}
 use denote.Enum.Bare.{same_true}
 use Rattle.ada_tree.specs.contracts.kind.Kind as kind_row
@@ -58,22 +59,9 @@ is_special k = is_among k specials
 
 -- ---- Bool
 
--- what a conjunction says, and what shows one
+-- what a conjunction says
 pub both : {a b : Bool} → a && b ≡ true → (a ≡ true) × (b ≡ true)
-both {a = true} h = (refl, h)
-both {a = false} h = absurd cc
-
-pub both_true : (a b : Bool) → a ≡ true → b ≡ true → a && b ≡ true
-both_true true b p q = q
-both_true false b p q = absurd cc
-
-pub not_true : (b : Bool) → not b ≡ true → b ≡ false
-not_true true h = absurd cc
-not_true false h = refl
-
-pub not_false : (b : Bool) → not b ≡ false → b ≡ true
-not_false true h = refl
-not_false false h = absurd cc
+both {a = a} {b = b} h = and_parts a b h
 
 no_others : (a b c d : Bool) → b ≡ false → c ≡ false → d ≡ false → a || b || c || d ≡ true → a ≡ true
 no_others true b c d eb ec ed h = refl
@@ -103,8 +91,8 @@ binds_none note place None k text h = refl
 binds_none note place (Some l) k text h = rw h refl
 
 special_binds : (note : Bool) (k : Kind) → is_special k ≡ true → is_among k (expression_kinds note) ≡ false
-special_binds true k h = not_true _ (all_among (λ k. not (is_among k (expression_kinds true))) specials refl k h)
-special_binds false k h = not_true _ (all_among (λ k. not (is_among k (expression_kinds false))) specials refl k h)
+special_binds true k h = not-true _ (all_among (λ k. not (is_among k (expression_kinds true))) specials refl k h)
+special_binds false k h = not-true _ (all_among (λ k. not (is_among k (expression_kinds false))) specials refl k h)
 
 no_specials : (place : Choice) → list_all (λ k. not (is_among k (kinds place))) specials ≡ true
 no_specials choice.Item = refl
@@ -118,8 +106,8 @@ special_coefficient _ text = refl
 only_there : (note : Bool) (place : Choice) (k : Kind) (text : List ℕ) → is_special k ≡ true → stands note place k text ≡ true → is_only place k ≡ true
 only_there note place k text s h =
     no_others (is_only place k) _ _ _
-    (not_true _ (all_among (λ k. not (is_among k (kinds place))) specials (no_specials place) k s))
-    (not_true _ (all_among (λ k. not (is_coefficient place k text)) specials (special_coefficient place text) k s))
+    (not-true _ (all_among (λ k. not (is_among k (kinds place))) specials (no_specials place) k s))
+    (not-true _ (all_among (λ k. not (is_coefficient place k text)) specials (special_coefficient place text) k s))
     (binds_none note place (floor place) k text (special_binds note k s)) h
 
 -- what a test says of a special kind that stands somewhere, it says of the place
@@ -140,7 +128,7 @@ plain_stands note place k text h p = by_test (is_plain_kind k) refl
     by_test : (b : Bool) → is_plain_kind k ≡ b → is_plain_kind k ≡ true
     by_test true e = e
     by_test false e =
-        sym (at_own_place is_plain place k (only_there note place k text (all_among is_special (kind.Doc ∷ kind.File ∷ kind.Seq ∷ []) refl k (not_false _ e)) h)) ∙ p
+        sym (at_own_place is_plain place k (only_there note place k text (all_among is_special (kind.Doc ∷ kind.File ∷ kind.Seq ∷ []) refl k (not-false _ e)) h)) ∙ p
 
 pub proper_stands : (note : Bool) (place : Choice) (k : Kind) (text : List ℕ) → stands note place k text ≡ true → is_proper place ≡ true → is_improper_kind k ≡ false
 proper_stands note place k text h p = by_test (is_improper_kind k) refl
@@ -148,7 +136,7 @@ proper_stands note place k text h p = by_test (is_improper_kind k) refl
     by_test : (b : Bool) → is_improper_kind k ≡ b → is_improper_kind k ≡ false
     by_test false e = e
     by_test true e =
-        not_true _ (sym (at_own_place is_proper place k (only_there note place k text (all_among is_special (kind.Doc ∷ kind.None ∷ []) refl k e) h)) ∙ p)
+        not-true _ (sym (at_own_place is_proper place k (only_there note place k text (all_among is_special (kind.Doc ∷ kind.None ∷ []) refl k e) h)) ∙ p)
 
 left_of_two : (a : Bool) → a || false || false ≡ true → a ≡ true
 left_of_two true h = refl

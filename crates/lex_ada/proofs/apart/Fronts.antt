@@ -1,7 +1,7 @@
 -- What may follow a token, by how its text begins and whether a blank comes between.
 use Rattle.std.proofs.Common.{◌≡◌, ℕ, List, [], ◌∷◌, Bool, true, false, not, ◌&&◌, ◌||◌, refl, ◌∙◌, subst, Option, Some, None, arith}
 use Rattle.std.specs.Prelude.{◌==◌, codes}
-use Rattle.std.proofs.lemmas.Bool.{or_left, or_right}
+use Rattle.std.proofs.lemmas.Bool.{or_left, or_right, not-true}
 use Rattle.std.specs.List.{list_any, list_all}
 use Rattle.std.specs.Char.{is_ascii_alphabetic, is_ascii_digit}
 use Rattle.std.proofs.lemmas.Bool.{eqb-true}
@@ -14,7 +14,7 @@ use Rattle.ada_tree.specs.Words.{word_text, mark_text}
 use Rattle.ada_tree.specs.Texts.{begins, is_identifier, is_big, is_small, is_number}
 use Rattle.ada_tree.specs.Tokens.{Lexeme, a_name, a_number, a_word, a_mark}
 use Rattle.ada_tree.specs.Rendering.{lexeme_text, has_no_blank_before, has_no_blank_after}
-use Rattle.ada_tree.proofs.round_trip.Places.{both, not_true}
+use Rattle.ada_tree.proofs.round_trip.Places.{both}
 use Rattle.ada_tree.proofs.round_trip.OpenedItems.{one_of}
 use Rattle.lex_ada.specs.declared.token.TokenKind.{TokenKind}
 use Rattle.lex_ada.specs.declared.token.TokenKind.TheVariants as kind
@@ -118,7 +118,7 @@ stops test wanted [] h t = refl
 stops test wanted (b ∷ text) h t = h b t
 
 word_stops : (b : ℕ) → is_link b ≡ true → is_word_byte b ≡ false
-word_stops b h = not_true _ (all_bytes (λ c. not (is_word_byte c)) links b refl h)
+word_stops b h = not-true _ (all_bytes (λ c. not (is_word_byte c)) links b refl h)
 
 after_letters : (last : TokenKind × List ℕ) → ((b : ℕ) → goes_on last.0 last.1 b ≡ is_word_byte b) → Admits usual (Some last) false
 after_letters last same false text h = refl
@@ -159,7 +159,7 @@ mark_admits m d true t joined [] h = refl
 mark_admits m d true t joined (b ∷ text) h = rw (tight_stops m d t b) refl
 mark_admits m d false t false text h = refl
 mark_admits m d false t true text h = one_of (begins is_link text) _ h
-    (λ e. rw (stops is_link (goes_on kind.Mark (mark_text m)) text (λ b i. not_true _ (all_bytes (λ c. not (goes_on kind.Mark (mark_text m) c)) links b (link_stops m d) i)) e) refl)
+    (λ e. rw (stops is_link (goes_on kind.Mark (mark_text m)) text (λ b i. not-true _ (all_bytes (λ c. not (goes_on kind.Mark (mark_text m) c)) links b (link_stops m d) i)) e) refl)
     (λ e. rw (stops is_start (goes_on kind.Mark (mark_text m)) text (start_stops m) e) refl)
 
 dot_admits : Admits starting (Some (kind.Mark, mark_text mark.Dot)) true

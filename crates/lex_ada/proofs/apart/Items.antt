@@ -1,11 +1,12 @@
 -- Items whose tokens can be told apart, after whatever lets one front follow and before whatever may follow another.
 use Rattle.std.proofs.Common.{◌≡◌, ℕ, List, [], ◌∷◌, ◌++◌, Bool, true, false, ◌&&◌, refl, Option, append_assoc}
+use Rattle.std.proofs.lemmas.Bool.{and_from}
 use Rattle.std.specs.List.{list_all}
 use Rattle.ada_tree.specs.Texts.{is_small, is_comment}
 use Rattle.ada_tree.specs.Tokens.{Lexeme}
 use Rattle.ada_tree.specs.Items.{Item, put, put_small, glue, line_break, indent, outdent, note_on, note_off, comment_line}
 use Rattle.ada_tree.specs.Canonical.{comment_lines}
-use Rattle.ada_tree.proofs.round_trip.Places.{both, both_true}
+use Rattle.ada_tree.proofs.round_trip.Places.{both}
 use Rattle.lex_ada.specs.declared.token.TokenKind.{TokenKind}
 use Rattle.lex_ada.specs.Rendered.{is_fitting, are_apart}
 use Rattle.lex_ada.proofs.apart.Fronts.{Front, usual, after_mark, starting, linking, Admits, gives, admits_given, fresh_admits, may_glue, glued, glue_admits, front_after, after_lexeme, after_small, takes, lexeme_follows, small_follows}
@@ -36,12 +37,12 @@ widen {from = from} {need = need} {have = have} {to = to} f t i = record {
 
 pub token_apart : {note : Bool} {from : Front} (lexeme : Lexeme) → is_fitting note lexeme ≡ true → takes from lexeme ≡ true → IsApart note note from (front_after lexeme) (put lexeme ∷ [])
 token_apart {note = note} {from = from} lexeme f t = record {
-  apart = λ rest r last tight a. both_true _ _ (both_true _ _ f (lexeme_follows note from lexeme last tight a f t)) (r _ _ (after_lexeme lexeme));
+  apart = λ rest r last tight a. and_from _ _ (and_from _ _ f (lexeme_follows note from lexeme last tight a f t)) (r _ _ (after_lexeme lexeme));
 }
 
 pub small_apart : {from : Front} (text : List ℕ) → is_small text ≡ true → gives from starting ≡ true → IsApart true true from usual (put_small text ∷ [])
 small_apart {from = from} text s g = record {
-  apart = λ rest r last tight a. both_true _ _ (both_true _ _ s (small_follows from text last tight a s g)) (r _ _ (after_small text));
+  apart = λ rest r last tight a. and_from _ _ (and_from _ _ s (small_follows from text last tight a s g)) (r _ _ (after_small text));
 }
 
 pub glue_apart : {note : Bool} (from : Front) → may_glue from ≡ true → IsApart note note from (glued from) (glue ∷ [])
@@ -67,7 +68,7 @@ comments_apart from to [] h g = nothing_apart g
 comments_apart from to (text ∷ notes) h g = append_apart {middle = after_mark} {need = after_mark} {front = comment_line text ∷ []} refl one (comments_apart after_mark to notes (both h).1 refl)
   where
     one : IsApart false false from after_mark (comment_line text ∷ [])
-    one = record { apart = λ rest r last tight a. both_true _ _ (both h).0 (r _ false fresh_admits) }
+    one = record { apart = λ rest r last tight a. and_from _ _ (both h).0 (r _ false fresh_admits) }
 
 -- ---- tokens and glue, by a test
 

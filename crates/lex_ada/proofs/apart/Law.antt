@@ -1,5 +1,6 @@
 -- The tokens of each file's canonical text can be told apart.
 use Rattle.std.proofs.Common.{◌≡◌, ℕ, List, [], refl, subst, Bool, true, false, None}
+use Rattle.std.proofs.lemmas.List.{append-nil}
 use Rattle.std.specs.Prelude.{Contains}
 use Rattle.ada_tree.specs.declared.kind.Kind.TheVariants as kind
 use Rattle.ada_tree.specs.declared.word.Mark.{Mark}
@@ -16,7 +17,6 @@ use Rattle.ada_tree.specs.Items.{Item}
 use Rattle.ada_tree.specs.Fits.{Fits}
 use Rattle.ada_tree.specs.Spelling.{SpellsNode, SpellsKid, SpellsMembers, SpellsListed, SpellsLine, SpellsArguments, by_line, in_parentheses, one, any, many, listed, some_listed, none_listed, some_variables, no_variables, end_with_comments, end_without, member_with_comments, member_without, last, and_more, done, its_word, its_mark, its_text, omitted, its_kid, its_members, its_arguments, given, left_out, shown, hidden, laid_out, note_begins, note_ends, no_more, an_argument, in_number, no_in_number, a_list, no_list}
 use Rattle.ada_tree.specs.Canonical.{items_of}
-use Rattle.ada_tree.proofs.round_trip.Items.{append_nil}
 use Rattle.ada_tree.proofs.round_trip.Written.{node_items, as_it_is}
 use Rattle.ada_tree.proofs.round_trip.Law.{line_back}
 use Rattle.ada_tree.proofs.round_trip.Whole.{file_spelled}
@@ -82,7 +82,7 @@ told_apart : {events rest : List Event} (file : Node) → SpellsNode false (Only
 unfolding items_of
 told_apart file d =
     let own = (node_apart (tell_node d)).apart refl in
-    subst (λ (items : List Item). are_apart false None false items ≡ true) (append_nil (node_items (Only kind.File) file))
+    subst (λ (items : List Item). are_apart false None false items ≡ true) (append-nil (node_items (Only kind.File) file))
     (own.apart [] (λ last tight a. refl) None false (admits_given after_mark usual None false refl fresh_admits))
 
 -- the canonical text of each file of a document

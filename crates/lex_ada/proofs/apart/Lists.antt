@@ -1,7 +1,7 @@
 -- Members, members with a mark between them, arguments of proof steps, and kids: their tokens can be told apart.
 use Rattle.std.proofs.Common.{◌≡◌, ℕ, List, [], ◌∷◌, ◌++◌, refl, sym, subst, Bool, true, false, not, ◌&&◌, ◌||◌, Some}
 use Rattle.std.specs.List.{list_all}
-use Rattle.std.proofs.lemmas.Bool.{or_left, or_right}
+use Rattle.std.proofs.lemmas.Bool.{or_left, or_right, not-true}
 use Rattle.ada_tree.specs.declared.kind.Kind.TheVariants as kind
 use Rattle.ada_tree.specs.declared.word.Word.TheVariants as word
 use Rattle.ada_tree.specs.declared.word.Mark.{Mark}
@@ -19,10 +19,10 @@ use Rattle.ada_tree.specs.Items.{Item, put, line_break}
 use Rattle.ada_tree.specs.Choices.{comments_of}
 use Rattle.ada_tree.specs.Spelling.{starts_with_comments, ends_with_comments, keeps_comments, argument_place, listed_place}
 use Rattle.ada_tree.specs.Canonical.{separated, marked, argument_list, comment_lines, for_all}
-use Rattle.ada_tree.proofs.round_trip.Places.{both, not_true}
+use Rattle.ada_tree.proofs.round_trip.Places.{both}
 use Rattle.ada_tree.proofs.round_trip.Written.{all_written, node_items}
-use Rattle.ada_tree.proofs.round_trip.Lists.{notes_at, nothing, other_of, starts_at_first}
-use Rattle.ada_tree.proofs.round_trip.Layouts.{argument_items, list_items, kid_at, no_kids}
+use Rattle.ada_tree.proofs.round_trip.Lists.{notes_at, other_of, starts_at_first}
+use Rattle.ada_tree.proofs.round_trip.Layouts.{argument_items, list_items, kid_at, nothing, no_kids}
 use Rattle.lex_ada.proofs.apart.Fronts.{usual, after_mark, front_after, takes}
 use Rattle.lex_ada.proofs.apart.Items.{IsApart, nothing_apart, append_apart, widen, token_apart, break_apart, comments_apart, fit_apart}
 use Rattle.lex_ada.proofs.apart.Lines.{is_noted_place, is_apart_list, is_apart_mark}
@@ -71,7 +71,7 @@ member_commented {note = note} {place = place} {node = node} first b c one other
 
 pub member_uncommented : {note : Bool} {place : Choice} {node : Node} {nodes : List Node} {notes : List (List ℕ)} → keeps_comments (comments_of place) || is_silent node ≡ true → IsNodeApart note place node → AreMembersApart note place nodes notes → AreMembersApart note place (node ∷ nodes) notes
 member_uncommented {note = note} {node = node} c one others =
-    more_members (λ l. subst (λ own. IsApart note note usual usual (comment_lines own)) (sym (nothing (notes_of node) (other_of _ _ c (not_true _ (both (both l).0).1)))) (nothing_apart refl)) one others
+    more_members (λ l. subst (λ own. IsApart note note usual usual (comment_lines own)) (sym (nothing (notes_of node) (other_of _ _ c (not-true _ (both (both l).0).1)))) (nothing_apart refl)) one others
 
 -- ---- members with a mark between them
 

@@ -1,5 +1,6 @@
 -- Operators by where a node stands, and operands that begin as they must after a sign.
 use Rattle.std.proofs.Common.{◌≡◌, ℕ, List, [], ◌∷◌, refl, sym, ◌∙◌, ap, subst, Bool, true, false, not, ◌&&◌, ◌||◌, Option, Some, None, if◌then◌else◌}
+use Rattle.std.proofs.lemmas.Bool.{not-true}
 use Rattle.std.specs.Prelude.{is_some, find, cond, bytes_eq}
 use Rattle.std.specs.List.{list_all}
 use Rattle.std.proofs.lemmas.Slice.Eq.{bytes_eq-Decides}
@@ -17,7 +18,7 @@ use Rattle.ada_tree.specs.Choices.{kinds, expression_kinds, floor, binds, is_coe
 use Rattle.ada_tree.specs.Texts.{symbol_items}
 use Rattle.ada_tree.specs.Lines.{line, operator_line}
 use Rattle.ada_tree.specs.Canonical.{is_compound, is_wrapped}
-use Rattle.ada_tree.proofs.round_trip.Places.{same_kind, all_among, both, not_true}
+use Rattle.ada_tree.proofs.round_trip.Places.{same_kind, all_among, both}
 use Rattle.ada_tree.proofs.round_trip.OpenedItems.{one_of}
 use Rattle.lex_ada.proofs.apart.Fronts.{usual, after_mark, starting}
 use Rattle.lex_ada.proofs.apart.Items.{IsApart, fit_items, fit_apart}
@@ -79,12 +80,12 @@ levelled : {P : Type 0} (note : Bool) (place : Choice) (k : Kind) (text : List �
 levelled {P = P} note place k text n h o coefficient level =
     one_of (is_only place k || is_among k (kinds place) || is_coefficient place k text) _ h
     (λ e. one_of (is_only place k || is_among k (kinds place)) _ e
-    (λ f. one_of (is_only place k) _ f (at_only place n) (λ a. clash (is_among k operator_kinds) o (not_true _ (all_among (λ k. not (is_among k operator_kinds)) (kinds place) (no_operators place) k a))))
+    (λ f. one_of (is_only place k) _ f (at_only place n) (λ a. clash (is_among k operator_kinds) o (not-true _ (all_among (λ k. not (is_among k operator_kinds)) (kinds place) (no_operators place) k a))))
     coefficient)
     (bound (floor place) refl)
   where
     at_only : (place : Choice) → is_noted_place note place ≡ true → is_only place k ≡ true → P
-    at_only (choice.Only wanted) n e = clash (is_among wanted operator_kinds) (ap (λ k. is_among k operator_kinds) (same_kind wanted k e) ∙ o) (not_true (is_among wanted operator_kinds) (both n).1)
+    at_only (choice.Only wanted) n e = clash (is_among wanted operator_kinds) (ap (λ k. is_among k operator_kinds) (same_kind wanted k e) ∙ o) (not-true (is_among wanted operator_kinds) (both n).1)
     at_only _ n e = absurd cc
 
     bound : (least : Option Level) → floor place ≡ least → binds note place least k text ≡ true → P
