@@ -1,4 +1,3 @@
-pub mod EmptyFiles
 pub mod evaluator
 pub mod examples
 pub mod Parts

@@ -4,7 +4,7 @@ ghost use Rattle.std.specs.Prelude.{◌≡◌, ◌++◌, [], map, reverse, IfOk,
 ghost use Rattle.ada_tree.specs.Building.{building, nodes_behind};
 
 use crate::node::{Kids, Node};
-use base_kit::Memory;
+use base_kit::{Copied, Memory};
 use sqlite_items::Items;
 use std::alloc::Global;
 
@@ -17,8 +17,8 @@ fn push_all<'a>(work: &mut Vec<&'a Node>, nodes: &'a [Node]) -> Result<(), Memor
     Ok(())
 }
 
-/// The nodes and those below them.
-pub fn visit<'a>(alloc: Global, nodes: &'a [Node]) -> Result<Vec<&'a Node>, Memory>
+// The nodes and those below them.
+fn visit<'a>(alloc: Global, nodes: &'a [Node]) -> Result<Vec<&'a Node>, Memory>
     ensures { IfOk result (λ visited. building (reverse (nodes_behind visited.items)) [] ≡ nodes.now) }
 {
     let mut work = Vec::new(alloc);
@@ -31,8 +31,8 @@ pub fn visit<'a>(alloc: Global, nodes: &'a [Node]) -> Result<Vec<&'a Node>, Memo
     Ok(visited)
 }
 
-/// Builds what was visited anew.
-pub fn build(alloc: Global, mut visited: Vec<&Node>) -> Result<Kids, Memory>
+// Builds what was visited anew.
+fn build(alloc: Global, mut visited: Vec<&Node>) -> Result<Kids, Memory>
     ensures { IfOk result (λ built. built ≡ building (reverse (nodes_behind visited.entry.items)) []) }
 {
     let mut built = Vec::new(alloc);
@@ -46,4 +46,12 @@ pub fn build(alloc: Global, mut visited: Vec<&Node>) -> Result<Kids, Memory>
         })?;
     }
     Ok(Items::from_vec(built))
+}
+
+/// Equal nodes. The depth of the trees takes no stack.
+pub fn copy_nodes(alloc: Global, nodes: &[Node]) -> Result<Kids, Memory>
+    ensures { IfOk result (λ same. same ≡ nodes.now) }
+{
+    let visited = visit(alloc, nodes)?;
+    build(alloc, visited)
 }

@@ -1,10 +1,10 @@
 // Documents: trees that fit the grammar.
-ghost use Rattle.std.specs.Prelude.{◌≡◌, ◌↔◌, IsTrue, IfOk};
+ghost use Rattle.std.specs.Prelude.{◌≡◌, ◌↔◌, IsTrue};
 ghost use Rattle.std.specs.Option.{option_copied};
 ghost use Rattle.ada_tree.specs.Nodes.{node_at, kind_of, text_of, notes_of};
 
 use crate::node::Node;
-use base_kit::{Memory, Path, Text};
+use base_kit::{Copied, Memory, Path, Text};
 use std::alloc::Global;
 use std::marker::Model;
 
@@ -30,11 +30,8 @@ impl Model for Doc {
     ghost invariant = { λ doc. Fits doc.root };
 }
 
-impl Doc {
-    /// An equal document.
-    pub fn copy(&self, alloc: Global) -> Result<Self, Memory>
-        ensures { IfOk result (λ same. same ≡ self.now) }
-    {
+impl Copied for Doc {
+    fn copy(&self, alloc: Global) -> Result<Self, Memory> {
         Ok(Doc {
             root: self.root.copy(alloc)?,
         })

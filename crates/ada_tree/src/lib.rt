@@ -13,18 +13,16 @@ mod lookup;
 mod node;
 mod operator;
 mod rule;
-#[cfg(test)]
-mod tests;
 mod word;
 
-pub use counting::counts;
-pub use doc::{Counts, DeclId, Doc, at, same};
+pub use counting::{add_counts, counts};
+pub use doc::{Counts, DeclId, Doc, at, is_same, same};
 pub use grammar::{Argument, Choice, Comments, Logical, Own, Piece, Shape};
 pub use kind::Kind;
 pub use laws::canonical_text_is_read;
 pub use lines::line;
 pub use lookup::Lookup;
-pub use node::{CopyKids, Kids, Node};
+pub use node::{Kids, Node};
 pub use operator::{Level, OPERATORS, Operands, Operator, OperatorEntry, Side};
 pub use rule::{PROOF_RULES, ProofRule, arguments};
 pub use word::{MARKS, Mark, NOTE_WORDS, RESERVED_WORDS, Word};

@@ -1,9 +1,7 @@
 // The nodes of a tree.
-ghost use Rattle.std.specs.Prelude.{◌≡◌, IfOk};
-
-use crate::copying::{build, visit};
+use crate::copying::copy_nodes;
 use crate::kind::Kind;
-use base_kit::{Memory, Names, Text};
+use base_kit::{Copied, Memory, Names, Text};
 use sqlite_items::Items;
 use std::alloc::Global;
 
@@ -26,29 +24,14 @@ pub struct Node {
 /// The kids of a node, in order.
 pub type Kids = Items<Node>;
 
-impl Node {
-    /// An equal node. The depth of the tree takes no stack.
-    pub fn copy(&self, alloc: Global) -> Result<Self, Memory>
-        ensures { IfOk result (λ same. same ≡ self.now) }
-    {
+impl Copied for Node {
+    // The depth of the tree takes no stack.
+    fn copy(&self, alloc: Global) -> Result<Self, Memory> {
         Ok(Node {
             kind: self.kind,
             text: self.text.copy(alloc)?,
             notes: self.notes.copy(alloc)?,
-            kids: self.kids.copy(alloc)?,
+            kids: copy_nodes(alloc, self.kids.as_slice())?,
         })
-    }
-}
-
-/// `copy` for `Kids`, which is a name for a list of another crate.
-pub trait CopyKids {
-    fn copy(&self, alloc: Global) -> Result<Self, Memory>
-        ensures { IfOk result (λ same. same ≡ self.now) };
-}
-
-impl CopyKids for Kids {
-    fn copy(&self, alloc: Global) -> Result<Self, Memory> {
-        let visited = visit(alloc, self.as_slice())?;
-        build(alloc, visited)
     }
 }

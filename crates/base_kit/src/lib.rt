@@ -4,9 +4,7 @@
 mod fault;
 mod lists;
 mod steps;
-#[cfg(test)]
-mod tests;
 
 pub use fault::{Code, Fault, Memory, Place, Stop};
-pub use lists::{Bounds, Names, Numbers, Path, Text};
+pub use lists::{Bounds, Copied, Listed, Names, Numbers, Path, Text};
 pub use steps::{Ledger, Steps, Tally};

@@ -1,9 +1,124 @@
 // Lists in fields: each is a Vec that contracts see as a list, is made from one and gives it back.
-ghost use Rattle.std.specs.Prelude.{◌≡◌, List, ℕ, ℤ, [], ◌∷◌, ◌++◌, IfOk, OnOk, OnErr};
+ghost use Rattle.std.specs.Prelude.{◌≡◌, List, ℕ, [], ◌∷◌, ◌++◌, IfOk, OnOk, OnErr};
 
 use crate::Memory;
+use sqlite_items::{Boxed, Items};
 use std::alloc::Global;
 use std::marker::Model;
+
+/// What can be copied, where memory suffices.
+pub trait Copied {
+    /// A value equal to this one.
+    fn copy(&self, alloc: Global) -> Result<Self, Memory>
+        ensures { IfOk result (λ same. same ≡ self.now) };
+}
+
+impl Copied for u32 {
+    fn copy(&self, _: Global) -> Result<Self, Memory> {
+        Ok(*self)
+    }
+}
+
+impl Copied for i64 {
+    fn copy(&self, _: Global) -> Result<Self, Memory> {
+        Ok(*self)
+    }
+}
+
+/// Members in order.
+#[derive(Drop)]
+pub struct Listed<T> {
+    members: Vec<T>,
+}
+
+impl<T> Model for Listed<T> {
+    ghost use Rattle.std.specs.Prelude.{List};
+    ghost use Rattle.std.specs.Coded.{coded_list};
+
+    ghost Value = { List T };
+
+    ghost coded = { coded_list T.code };
+
+    ghost view = { λ list. list.members.items };
+}
+
+impl<T> From<Vec<T>> for Listed<T> {
+    ghost from_gives = { λ members list. list ≡ members.items };
+
+    fn from(members: Vec<T>) -> Self {
+        Listed { members }
+    }
+}
+
+impl<T> Listed<T> {
+    /// The list without members. It takes no memory.
+    pub fn new(alloc: Global) -> Self
+        ensures { result ≡ [] }
+    {
+        Listed {
+            members: Vec::new(alloc),
+        }
+    }
+
+    /// Gives the members back. It takes no memory.
+    pub fn into_vec(self) -> Vec<T>
+        ensures { result.items ≡ self }
+    {
+        self.members
+    }
+
+    pub fn as_slice(&self) -> &[T]
+        ensures { result.now ≡ self.now }
+    {
+        self.members.as_slice()
+    }
+}
+
+impl<T: Drop> Listed<T> {
+    /// Adds a member at the end.
+    pub fn push(&mut self, member: T) -> Result<(), Memory>
+        ensures ok { OnOk result (self.new ≡ self.old ++ member ∷ []) }
+        ensures err { OnErr result (self.new ≡ self.old) }
+    {
+        self.members.push(member)?;
+        Ok(())
+    }
+}
+
+impl<T: Copied + Drop> Copied for Listed<T> {
+    fn copy(&self, alloc: Global) -> Result<Self, Memory> {
+        let mut members = Vec::new(alloc);
+        for member in &self.members {
+            members.push(member.copy(alloc)?)?;
+        }
+        Ok(Listed { members })
+    }
+}
+
+impl<T: Copied + Drop> Copied for Items<T> {
+    fn copy(&self, alloc: Global) -> Result<Self, Memory> {
+        let mut members = Items::new(alloc);
+        for member in self.as_slice() {
+            members.push(member.copy(alloc)?)?;
+        }
+        Ok(members)
+    }
+}
+
+impl<T: Copied + Drop> Copied for Boxed<T> {
+    fn copy(&self, alloc: Global) -> Result<Self, Memory> {
+        Ok(Boxed::new(alloc, self.get().copy(alloc)?)?)
+    }
+}
+
+/// Texts in order.
+pub type Names = Listed<Text>;
+
+/// Numbers in order.
+pub type Numbers = Listed<u32>;
+
+/// Signed numbers in order, as the bounds of ranges.
+pub type Bounds = Listed<i64>;
 
 /// The bytes of a text.
 #[derive(Drop)]
@@ -38,159 +153,12 @@ impl Text {
     {
         self.bytes.as_slice()
     }
+}
 
-    pub fn copy(&self, alloc: Global) -> Result<Self, Memory>
-        ensures { IfOk result (λ same. same ≡ self.now) }
-    {
+impl Copied for Text {
+    fn copy(&self, alloc: Global) -> Result<Self, Memory> {
         let bytes = Vec::from_slice(alloc, self.bytes.as_slice())?;
         Ok(Text { bytes })
-    }
-}
-
-/// Texts in order.
-#[derive(Drop)]
-pub struct Names {
-    texts: Vec<Text>,
-}
-
-impl Model for Names {
-    ghost Value = { List (List ℕ) };
-
-    ghost view = { λ names. names.texts.items };
-}
-
-impl From<Vec<Text>> for Names {
-    ghost from_gives = { λ texts names. names ≡ texts.items };
-
-    fn from(texts: Vec<Text>) -> Self {
-        Names { texts }
-    }
-}
-
-impl Names {
-    /// No texts. It takes no memory.
-    pub fn new(alloc: Global) -> Self
-        ensures { result ≡ [] }
-    {
-        Names {
-            texts: Vec::new(alloc),
-        }
-    }
-
-    /// Adds a text at the end.
-    pub fn push(&mut self, text: Text) -> Result<(), Memory>
-        ensures ok { OnOk result (self.new ≡ self.old ++ text ∷ []) }
-        ensures err { OnErr result (self.new ≡ self.old) }
-    {
-        self.texts.push(text)?;
-        Ok(())
-    }
-
-    /// Gives the texts back.
-    pub fn into_vec(self) -> Vec<Text>
-        ensures { result.items ≡ self }
-    {
-        self.texts
-    }
-
-    pub fn as_slice(&self) -> &[Text]
-        ensures { result.now ≡ self.now }
-    {
-        self.texts.as_slice()
-    }
-
-    pub fn copy(&self, alloc: Global) -> Result<Self, Memory>
-        ensures { IfOk result (λ same. same ≡ self.now) }
-    {
-        let mut texts = Vec::new(alloc);
-        for text in &self.texts {
-            texts.push(text.copy(alloc)?)?;
-        }
-        Ok(Names { texts })
-    }
-}
-
-/// Numbers in order.
-#[derive(Drop)]
-pub struct Numbers {
-    numbers: Vec<u32>,
-}
-
-impl Model for Numbers {
-    ghost Value = { List ℕ };
-
-    ghost view = { λ list. list.numbers.items };
-}
-
-impl From<Vec<u32>> for Numbers {
-    ghost from_gives = { λ numbers list. list ≡ numbers.items };
-
-    fn from(numbers: Vec<u32>) -> Self {
-        Numbers { numbers }
-    }
-}
-
-impl Numbers {
-    /// Gives the numbers back.
-    pub fn into_vec(self) -> Vec<u32>
-        ensures { result.items ≡ self }
-    {
-        self.numbers
-    }
-
-    pub fn as_slice(&self) -> &[u32]
-        ensures { result.now ≡ self.now }
-    {
-        self.numbers.as_slice()
-    }
-
-    pub fn copy(&self, alloc: Global) -> Result<Self, Memory>
-        ensures { IfOk result (λ same. same ≡ self.now) }
-    {
-        let numbers = Vec::from_slice(alloc, self.numbers.as_slice())?;
-        Ok(Numbers { numbers })
-    }
-}
-
-/// Signed numbers in order, as the bounds of ranges.
-#[derive(Drop)]
-pub struct Bounds {
-    bounds: Vec<i64>,
-}
-
-impl Model for Bounds {
-    ghost Value = { List ℤ };
-
-    ghost view = { λ list. list.bounds.items };
-}
-
-impl From<Vec<i64>> for Bounds {
-    ghost from_gives = { λ bounds list. list ≡ bounds.items };
-
-    fn from(bounds: Vec<i64>) -> Self {
-        Bounds { bounds }
-    }
-}
-
-impl Bounds {
-    /// Gives the bounds back.
-    pub fn into_vec(self) -> Vec<i64>
-        ensures { result.items ≡ self }
-    {
-        self.bounds
-    }
-
-    pub fn as_slice(&self) -> &[i64]
-        ensures { result.now ≡ self.now }
-    {
-        self.bounds.as_slice()
-    }
-
-    pub fn copy(&self, alloc: Global) -> Result<Self, Memory>
-        ensures { IfOk result (λ same. same ≡ self.now) }
-    {
-        let bounds = Vec::from_slice(alloc, self.bounds.as_slice())?;
-        Ok(Bounds { bounds })
     }
 }
 
@@ -204,10 +172,8 @@ impl Model for Path {
     ghost view = { λ path. path.0.items };
 }
 
-impl Path {
-    pub fn copy(&self, alloc: Global) -> Result<Self, Memory>
-        ensures { IfOk result (λ same. same ≡ self.now) }
-    {
+impl Copied for Path {
+    fn copy(&self, alloc: Global) -> Result<Self, Memory> {
         Ok(Path(Vec::from_slice(alloc, self.0.as_slice())?))
     }
 }

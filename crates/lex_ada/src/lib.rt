@@ -5,8 +5,6 @@ mod cut;
 mod laws;
 mod lex;
 mod scan;
-#[cfg(test)]
-mod tests;
 mod text;
 mod token;
 mod words;

@@ -1,7 +1,5 @@
 // Tokens.
-ghost use Rattle.std.specs.Prelude.{◌≡◌, List};
-
-use std::marker::Model;
+use base_kit::Listed;
 
 /// What a token is.
 #[derive(Clone, Copy, Debug, PartialEq, Eq)]
@@ -31,40 +29,4 @@ pub struct Token {
 }
 
 /// Tokens in order.
-#[derive(Drop)]
-pub struct Tokens {
-    tokens: Vec<Token>,
-}
-
-impl Model for Tokens {
-    ghost use Rattle.std.specs.Prelude.{List};
-    ghost use Rattle.lex_ada.specs.declared.token.Token.{Token};
-
-    ghost Value = { List Token };
-
-    ghost view = { λ list. list.tokens.items };
-}
-
-impl From<Vec<Token>> for Tokens {
-    ghost from_gives = { λ tokens list. list ≡ tokens.items };
-
-    fn from(tokens: Vec<Token>) -> Self {
-        Tokens { tokens }
-    }
-}
-
-impl Tokens {
-    /// Gives the tokens back.
-    pub fn into_vec(self) -> Vec<Token>
-        ensures { result.items ≡ self }
-    {
-        self.tokens
-    }
-
-    /// The tokens in order.
-    pub fn as_slice(&self) -> &[Token]
-        ensures { result.now ≡ self.now }
-    {
-        self.tokens.as_slice()
-    }
-}
+pub type Tokens = Listed<Token>;

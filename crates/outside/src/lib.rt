@@ -7,8 +7,6 @@ mod shelf;
 mod sink;
 mod status;
 mod system;
-#[cfg(test)]
-mod tests;
 
 pub use memory_shelf::{Entry, MemShelf};
 pub use memory_sink::MemSink;

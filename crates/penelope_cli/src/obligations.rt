@@ -8,7 +8,7 @@ ghost use Rattle.penelope_cli.specs.Paths.{entry_store, value_of, after_all, hyp
 ghost use Rattle.penelope_cli.specs.Bindings.{bound_value, rebound, bound_atom, bound_operand, bound_conclusions, joined, after_statement, after_statements, entry_bindings};
 
 use ada_read::{Atom, Clause, Operand, Procedure, Statement};
-use base_kit::{Memory, Text};
+use base_kit::{Copied, Memory, Text};
 use std::alloc::Global;
 use term_core::{Obligation, Obligations, Oper, Sequent, Sort, Term, Terms, Var, Vars};
 

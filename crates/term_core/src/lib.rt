@@ -4,16 +4,12 @@
 //! contracts see as the value and as the list: so a copy is plainly equal to what it copies.
 #![tactic(auto)]
 
-mod copying;
 mod names;
 mod obligation;
 mod sequent;
 mod sort;
 mod term;
-#[cfg(test)]
-mod tests;
 
-pub use copying::CopyItems;
 pub use names::{OpNames, SortEntry, SortNames};
 pub use obligation::{Obligation, Obligations};
 pub use sequent::{Sequent, Var, Vars};

@@ -1,9 +1,9 @@
 // The names of types, of their components and of operators.
-ghost use Rattle.std.specs.Prelude.{◌≡◌, ◌++◌, ◌∷◌, [], List, length, IfOk, OnOk, OnErr};
+ghost use Rattle.std.specs.Prelude.{◌≡◌, ◌++◌, ◌∷◌, [], List, length, OnOk, OnErr};
 ghost use Rattle.term_core.specs.Entries.{Fits};
 
 use crate::Sort;
-use base_kit::{Memory, Names, Text};
+use base_kit::{Copied, Memory, Names, Text};
 use std::alloc::Global;
 use std::marker::Model;
 
@@ -21,10 +21,8 @@ pub struct SortEntry {
     pub base: u32,
 }
 
-impl SortEntry {
-    pub fn copy(&self, alloc: Global) -> Result<Self, Memory>
-        ensures { IfOk result (λ same. same ≡ self.now) }
-    {
+impl Copied for SortEntry {
+    fn copy(&self, alloc: Global) -> Result<Self, Memory> {
         Ok(SortEntry {
             name: self.name.copy(alloc)?,
             sort: self.sort.copy(alloc)?,
@@ -83,10 +81,10 @@ impl SortNames {
     {
         self.entries.as_slice()
     }
+}
 
-    pub fn copy(&self, alloc: Global) -> Result<Self, Memory>
-        ensures { IfOk result (λ same. same ≡ self.now) }
-    {
+impl Copied for SortNames {
+    fn copy(&self, alloc: Global) -> Result<Self, Memory> {
         let mut entries = Vec::new(alloc);
         for entry in &self.entries {
             entries.push(entry.copy(alloc)?)?;
@@ -103,10 +101,8 @@ pub struct OpNames {
     pub parts: Names,
 }
 
-impl OpNames {
-    pub fn copy(&self, alloc: Global) -> Result<Self, Memory>
-        ensures { IfOk result (λ same. same ≡ self.now) }
-    {
+impl Copied for OpNames {
+    fn copy(&self, alloc: Global) -> Result<Self, Memory> {
         Ok(OpNames {
             ops: self.ops.copy(alloc)?,
             types: self.types.copy(alloc)?,

@@ -1,8 +1,7 @@
 // Sorts.
 ghost use Rattle.std.specs.Prelude.{◌≡◌, IfOk};
 
-use crate::CopyItems;
-use base_kit::Memory;
+use base_kit::{Copied, Memory};
 use sqlite_items::{Boxed, Items};
 use std::alloc::Global;
 
@@ -26,11 +25,9 @@ pub enum Sort {
 /// Sorts in order.
 pub type Sorts = Items<Sort>;
 
-impl Sort {
+impl Copied for Sort {
     #[cycle(copy)]
-    pub fn copy(&self, alloc: Global) -> Result<Self, Memory>
-        ensures { IfOk result (λ same. same ≡ self.now) }
-    {
+    fn copy(&self, alloc: Global) -> Result<Self, Memory> {
         Ok(match self {
             Sort::Whole => Sort::Whole,
             Sort::Range(low, high) => Sort::Range(*low, *high),
@@ -38,19 +35,20 @@ impl Sort {
             Sort::Array(low, high, element) => {
                 Sort::Array(*low, *high, Boxed::new(alloc, element.get().copy(alloc)?)?)
             }
-            Sort::Record(number, parts) => Sort::Record(*number, parts.copy(alloc)?),
+            Sort::Record(number, parts) => Sort::Record(*number, copy_parts(parts, alloc)?),
             Sort::Free(number) => Sort::Free(*number),
         })
     }
 }
 
-impl CopyItems for Sorts {
-    #[cycle(copy)]
-    fn copy(&self, alloc: Global) -> Result<Self, Memory> {
-        let mut sorts = Items::new(alloc);
-        for sort in self.as_slice() {
-            sorts.push(sort.copy(alloc)?)?;
-        }
-        Ok(sorts)
+// The copy of a list inside a sort: the generic one can't be part of the recursion.
+#[cycle(copy)]
+fn copy_parts(parts: &Sorts, alloc: Global) -> Result<Sorts, Memory>
+    ensures { IfOk result (λ same. same ≡ parts.now) }
+{
+    let mut sorts = Items::new(alloc);
+    for sort in parts.as_slice() {
+        sorts.push(sort.copy(alloc)?)?;
     }
+    Ok(sorts)
 }

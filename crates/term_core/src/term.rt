@@ -1,8 +1,7 @@
 // Terms.
 ghost use Rattle.std.specs.Prelude.{◌≡◌, IfOk};
 
-use crate::CopyItems;
-use base_kit::{Memory, Text};
+use base_kit::{Copied, Memory, Text};
 use sqlite_items::{Boxed, Items};
 use std::alloc::Global;
 
@@ -61,16 +60,14 @@ pub enum Term {
 /// Terms in order.
 pub type Terms = Items<Term>;
 
-impl Term {
+impl Copied for Term {
     #[cycle(copy)]
-    pub fn copy(&self, alloc: Global) -> Result<Self, Memory>
-        ensures { IfOk result (λ same. same ≡ self.now) }
-    {
+    fn copy(&self, alloc: Global) -> Result<Self, Memory> {
         Ok(match self {
             Term::Int(value) => Term::Int(*value),
             Term::Truth(value) => Term::Truth(*value),
             Term::Var(name) => Term::Var(name.copy(alloc)?),
-            Term::Op(oper, terms) => Term::Op(*oper, terms.copy(alloc)?),
+            Term::Op(oper, terms) => Term::Op(*oper, copy_operands(terms, alloc)?),
             Term::All(name, low, high, body) => Term::All(
                 name.copy(alloc)?,
                 Boxed::new(alloc, low.get().copy(alloc)?)?,
@@ -87,13 +84,14 @@ impl Term {
     }
 }
 
-impl CopyItems for Terms {
-    #[cycle(copy)]
-    fn copy(&self, alloc: Global) -> Result<Self, Memory> {
-        let mut terms = Items::new(alloc);
-        for term in self.as_slice() {
-            terms.push(term.copy(alloc)?)?;
-        }
-        Ok(terms)
+// The copy of a list inside a term: the generic one can't be part of the recursion.
+#[cycle(copy)]
+fn copy_operands(operands: &Terms, alloc: Global) -> Result<Terms, Memory>
+    ensures { IfOk result (λ same. same ≡ operands.now) }
+{
+    let mut terms = Items::new(alloc);
+    for term in operands.as_slice() {
+        terms.push(term.copy(alloc)?)?;
     }
+    Ok(terms)
 }

@@ -1,6 +1,0 @@
-use Rattle.std.proofs.Common.{[]}
-use Rattle.ada_tree.proofs.EmptyFiles.{one_more, one_fits}
-use Rattle.ada_tree.proofs.tests.one_file.Goals as goal
-
-pub invariant_of-result : goal.invariant_of-result
-invariant_of-result c = one_fits _ _ c.document.ensures (one_more _ _ _ [] c.in_ok-push.ensures.ok c.empty_file.ensures c.new-files.ensures)

@@ -1,0 +1,201 @@
+// What no clause says: that each call can succeed, that tables have the rows of the language, and how
+// deep a tree may be.
+ghost use Rattle.std.specs.Prelude.{◌≡◌, []};
+ghost use Rattle.ada_tree.specs.declared.kind.Kind.TheVariants as kind;
+ghost use Rattle.ada_tree.specs.Nodes.{node_of};
+
+use ada_tree::{
+    Argument, Choice, Comments, Counts, Doc, Kids, Kind, Level, Mark, Node, Operator, Piece,
+    ProofRule, Word, add_counts, arguments, at, counts, is_same, line, same,
+};
+use base_kit::{Copied, Memory, Names, Path, Text};
+use std::alloc::Global;
+use std::test::Fail;
+
+fn text(alloc: Global, bytes: &[u8]) -> Result<Text, Memory> {
+    Ok(Text::from(Vec::from_slice(alloc, bytes)?))
+}
+
+fn leaf(alloc: Global, kind: Kind, bytes: &[u8]) -> Result<Node, Memory> {
+    Ok(Node {
+        kind,
+        text: text(alloc, bytes)?,
+        notes: Names::new(alloc),
+        kids: Kids::new(alloc),
+    })
+}
+
+fn with_kid(mut node: Node, kid: Node) -> Result<Node, Memory> {
+    node.kids.push(kid)?;
+    Ok(node)
+}
+
+fn list_of(alloc: Global, node: Node) -> Result<Node, Memory> {
+    with_kid(leaf(alloc, Kind::List, b"")?, node)
+}
+
+fn specification(alloc: Global) -> Result<Node, Memory> {
+    with_kid(
+        leaf(alloc, Kind::Proc, b"P")?,
+        leaf(alloc, Kind::None, b"")?,
+    )
+}
+
+fn statements(alloc: Global) -> Result<Node, Memory> {
+    let statements = list_of(alloc, leaf(alloc, Kind::Null, b"")?)?;
+    let sequence = with_kid(leaf(alloc, Kind::Seq, b"")?, statements)?;
+    with_kid(sequence, leaf(alloc, Kind::None, b"")?)
+}
+
+// `procedure P is .. begin null; end P;` with these declarations.
+fn procedure(alloc: Global, declarations: Node) -> Result<Node, Memory> {
+    let body = with_kid(leaf(alloc, Kind::SubBody, b"P")?, specification(alloc)?)?;
+    let body = with_kid(body, leaf(alloc, Kind::None, b"")?)?;
+    let body = with_kid(body, declarations)?;
+    with_kid(body, statements(alloc)?)
+}
+
+// A procedure, in whose declarations one stands, and so on, so often.
+fn nested(alloc: Global, levels: u32) -> Result<Node, Memory> {
+    let mut node = procedure(alloc, leaf(alloc, Kind::List, b"")?)?;
+    for _ in 0..levels {
+        node = procedure(alloc, list_of(alloc, node)?)?;
+    }
+    Ok(node)
+}
+
+// Each procedure has nine nodes, and the next one stands two levels deeper: a tree of 23,004 levels,
+// more than any of 100,000 nodes has that the grammar allows. (The interpreter of `rt try` has too
+// little stack for it.)
+const LEVELS: u32 = 11_500;
+
+fn count(node: &Node) -> Counts {
+    let mut counts = Counts { tree: 0, proof: 0 };
+    add_counts(std::slice::from_ref(node), &mut counts);
+    counts
+}
+
+fn nested_is_counted(alloc: Global) -> Result<u64, Memory> {
+    Ok(count(&nested(alloc, LEVELS)?).tree)
+}
+
+fn nested_is_copied(alloc: Global) -> Result<bool, Memory> {
+    let node = nested(alloc, LEVELS)?;
+    let copy = node.copy(alloc)?;
+    Ok(is_same(&node, &copy))
+}
+
+fn nested_differs(alloc: Global) -> Result<bool, Memory> {
+    let node = nested(alloc, LEVELS)?;
+    let other = nested(alloc, LEVELS - 1)?;
+    Ok(is_same(&node, &other))
+}
+
+#[test]
+fn a_deep_tree_is_counted_copied_compared_and_dropped(rt: HostRuntime) -> Result<(), Fail> {
+    let alloc = rt.alloc();
+    assert_eq!(rt; nested_is_counted(alloc)?, 103_509);
+    assert!(rt; nested_is_copied(alloc)?);
+    assert!(rt; !nested_differs(alloc)?);
+    Ok(())
+}
+
+fn empty_file(alloc: Global) -> Node
+    ensures { result ≡ node_of kind.File [] [] [] }
+{
+    Node {
+        kind: Kind::File,
+        text: Text::from(Vec::new(alloc)),
+        notes: Names::new(alloc),
+        kids: Kids::new(alloc),
+    }
+}
+
+fn document(alloc: Global, files: Kids) -> Node
+    ensures { result ≡ node_of kind.Doc [] [] files }
+{
+    Node {
+        kind: Kind::Doc,
+        text: Text::from(Vec::new(alloc)),
+        notes: Names::new(alloc),
+        kids: files,
+    }
+}
+
+// A document of an empty file, and one of two.
+fn one_file(alloc: Global) -> Result<Doc, Memory> {
+    let mut files = Kids::new(alloc);
+    files.push(empty_file(alloc))?;
+    Ok(Doc {
+        root: document(alloc, files),
+    })
+}
+
+fn two_files(alloc: Global) -> Result<Doc, Memory> {
+    let mut files = Kids::new(alloc);
+    files.push(empty_file(alloc))?;
+    files.push(empty_file(alloc))?;
+    Ok(Doc {
+        root: document(alloc, files),
+    })
+}
+
+fn kind_at(alloc: Global, doc: &Doc, path: &[u32]) -> Result<Option<Kind>, Memory> {
+    let path = Path(Vec::from_slice(alloc, path)?);
+    Ok(match at(doc, &path) {
+        None => None,
+        Some(node) => Some(node.kind),
+    })
+}
+
+#[test]
+fn a_document_is_walked_counted_copied_and_compared(rt: HostRuntime) -> Result<(), Fail> {
+    let alloc = rt.alloc();
+    let doc = two_files(alloc)?;
+    assert_eq!(rt; kind_at(alloc, &doc, &[])?, Some(Kind::Doc));
+    assert_eq!(rt; kind_at(alloc, &doc, &[1])?, Some(Kind::File));
+    assert_eq!(rt; kind_at(alloc, &doc, &[2])?, None);
+    assert_eq!(rt; kind_at(alloc, &doc, &[1, 0])?, None);
+    assert_eq!(rt; counts(&doc), Counts { tree: 2, proof: 0 });
+    let copy = doc.copy(alloc)?;
+    assert!(rt; same(&doc, &copy));
+    let other = one_file(alloc)?;
+    assert!(rt; !same(&doc, &other));
+    Ok(())
+}
+
+#[test]
+fn tables_have_the_rows_of_the_language(rt: HostRuntime) -> Result<(), Fail> {
+    assert_eq!(rt; Word::Procedure.text(), "procedure");
+    assert_eq!(rt; Mark::Becomes.text(), ":=");
+    assert_eq!(rt; Operator::AndThen.text(), "and then");
+    assert_eq!(rt; Operator::of(Kind::Unary, b"-"), Some(Operator::Minus));
+    assert_eq!(rt; Operator::of(Kind::Binary, b"-"), Some(Operator::Subtract));
+    assert_eq!(rt; Operator::of(Kind::Binary, b"**"), None);
+    assert_eq!(rt; Operator::Rem.entry().level, Level::Product);
+    assert_eq!(rt; ProofRule::of(b"all_hyp"), Some(ProofRule::AllHyp));
+    assert_eq!(rt; ProofRule::AllHyp.text(), "all_hyp");
+    assert_eq!(rt;
+        ProofRule::AllHyp.arguments(),
+        [Argument::Number, Argument::Term].as_slice()
+    );
+    assert_eq!(rt;
+        arguments(b"rewrite"),
+        [Argument::Number, Argument::InNumber].as_slice()
+    );
+    assert_eq!(rt; arguments(b"guess").len(), 0);
+    assert_eq!(rt; Choice::Clause.kinds(), [Kind::With, Kind::Use].as_slice());
+    assert_eq!(rt; Choice::Stmt.comments(), Comments::Each);
+    assert!(rt; Choice::Bound.opens());
+    assert!(rt; !Choice::Mark.opens());
+    let relation = Choice::Operand(Level::Relation);
+    assert!(rt; relation.admits(false, Kind::Binary, b"="));
+    assert!(rt; !relation.admits(false, Kind::Binary, b"and"));
+    assert!(rt; !Choice::Expr.admits(false, Kind::Binary, b"iff"));
+    assert!(rt; Choice::Expr.admits(true, Kind::Binary, b"iff"));
+    assert_eq!(rt;
+        line(Choice::Stmt, Kind::Null, b""),
+        [Piece::Word(Word::Null), Piece::Mark(Mark::Semicolon)].as_slice()
+    );
+    Ok(())
+}
