@@ -1,5 +1,6 @@
 pub mod evaluator
 pub mod examples
+pub mod Found
 pub mod Parts
 pub mod round_trip
 pub mod Trees

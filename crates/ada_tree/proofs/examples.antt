@@ -4,3 +4,4 @@ pub mod Notes
 pub mod Spellings
 pub mod Statements
 pub mod Units
+mod Tables

@@ -13,13 +13,12 @@ use Rattle.ada_tree.specs.declared.grammar.Piece.{Piece}
 use Rattle.ada_tree.specs.declared.grammar.Piece.TheVariants.{Word, Mark as its_mark, Own, Kid, Members, Arguments, Option as Optional, Shown, End, Indent, Outdent, Glue, NoteOn, NoteOff}
 use Rattle.ada_tree.specs.declared.grammar.Argument.{Argument}
 use Rattle.ada_tree.specs.declared.grammar.Argument.TheVariants as argument
-use Rattle.ada_tree.specs.declared.operator.Operator.{Operator}
+use Rattle.ada_tree.specs.declared.operator.Level.{Level}
 use Rattle.ada_tree.specs.declared.operator.Level.TheVariants as level
 use Rattle.ada_tree.specs.declared.node.Node.{Node, Node-F, fold-Node}
 use Rattle.ada_tree.specs.Kinds.{is_kind, is_among}
 use Rattle.ada_tree.specs.Nodes.{is_empty}
-use Rattle.ada_tree.specs.Operators.{operator_entry, operator_of}
-use Rattle.ada_tree.specs.Choices.{is_tight}
+use Rattle.ada_tree.specs.Choices.{is_tight, level_of}
 use Rattle.ada_tree.specs.Lines.{line}
 use Rattle.ada_tree.specs.Rules.{arguments_of}
 use Rattle.ada_tree.specs.Tokens.{a_word, a_mark}
@@ -31,21 +30,16 @@ use Rattle.ada_tree.specs.Texts.{own_items}
 abbrev pub is_compound : Kind → Bool
 is_compound k = is_among k (kind.Binary ∷ kind.Unary ∷ kind.Member ∷ kind.All ∷ kind.Exists ∷ kind.Cond ∷ [])
 
-abbrev binds_as_sum : Option Operator → Bool
-binds_as_sum None = false
-binds_as_sum (Some o) = is_tight level.Sum (Some (operator_entry o).level)
-
--- a membership, a quantifier, a conditional term, or an operator that binds looser than a sum
-abbrev pub is_loose : Kind → List ℕ → Bool
-is_loose k text = is_among k (kind.Member ∷ kind.All ∷ kind.Exists ∷ kind.Cond ∷ []) || (is_kind k kind.Binary && not (binds_as_sum (operator_of kind.Binary text)))
+abbrev pub is_looser : Level → Option Level → Bool
+is_looser least None = false
+is_looser least (Some l) = not (is_tight least (Some l))
 
 -- a node of this kind with this text is written in parentheses at this place
 abbrev pub is_wrapped : Choice → Kind → List ℕ → Bool
 is_wrapped (choice.Operand level.Prefix) k text = is_compound k || is_kind k kind.Old
 is_wrapped (choice.Operand l) k text = is_compound k
 is_wrapped (choice.Chain operator) k text = is_compound k
-is_wrapped choice.Limit k text = is_compound k
-is_wrapped choice.Bound k text = is_loose k text
+is_wrapped choice.Bound k text = is_looser level.Sum (level_of k text)
 is_wrapped place k text = false
 
 -- ---- a node, with what its kids are written as
@@ -86,14 +80,14 @@ argument_list place (k ∷ ks) = in_parentheses (separated place mark.Comma (k �
 abbrev pub arguments : List Argument → List Written → List Item
 arguments [] ks = []
 arguments (argument.Names ∷ others) ks = argument_list (choice.Only kind.Name) ks
-arguments (argument.Terms ∷ others) ks = argument_list choice.Term ks
+arguments (argument.Terms ∷ others) ks = argument_list choice.Expr ks
 arguments (argument.Coefficients ∷ others) ks = argument_list choice.Coefficient ks
 arguments (a ∷ others) [] = []
-arguments (argument.InNumber ∷ others) (k ∷ ks) = put (a_word word.In) ∷ k.at (One choice.Number) ++ arguments others ks
-arguments (argument.Number ∷ others) (k ∷ ks) = k.at (One choice.Number) ++ arguments others ks
+arguments (argument.InNumber ∷ others) (k ∷ ks) = put (a_word word.In) ∷ k.at (One (choice.Only kind.Int)) ++ arguments others ks
+arguments (argument.Number ∷ others) (k ∷ ks) = k.at (One (choice.Only kind.Int)) ++ arguments others ks
 arguments (argument.Name ∷ others) (k ∷ ks) = k.at (One (choice.Only kind.Name)) ++ arguments others ks
 arguments (argument.LemmaName ∷ others) (k ∷ ks) = k.at (One choice.LemmaName) ++ arguments others ks
-arguments (argument.Term ∷ others) (k ∷ ks) = k.at (One choice.Term) ++ arguments others ks
+arguments (argument.Term ∷ others) (k ∷ ks) = k.at (One choice.Expr) ++ arguments others ks
 
 abbrev pub are_bare : ℕ → List Written → Bool
 are_bare zero ks = true

@@ -1,81 +1,79 @@
 -- The choices of the grammar: which nodes may stand at a place, and which lists take comments.
-use Rattle.std.specs.Prelude.{ℕ, List, [], ◌∷◌, Bool, true, false, ◌&&◌, ◌||◌, nat_le, not, Option, Some, None, is_some, bytes_eq, if◌then◌else◌}
+use Rattle.std.specs.Prelude.{ℕ, List, [], Bool, true, false, ◌&&◌, ◌||◌, nat_le, not, Option, Some, None, is_some, bytes_eq, codes}
+use Rattle.std.specs.Option.{option_map_or}
 use denote.Enum.Bare.{sameb}
-use Rattle.ada_tree.specs.contracts.grammar.Logical as logical_row
+use denote.Enum.Declared.{tag_of}
+use Rattle.ada_tree.specs.contracts.operator.Operator as operator_row
+use Rattle.ada_tree.specs.contracts.operator.Level as level_row
+use Rattle.ada_tree.specs.declared.choice.TheConstants.{ITEM, CLAUSE, LIB, SPEC, MARK, DECL, TDEF, DIS, CHOICES, CHOICE, STMT, HEAD, EXPR, ARG, WCLAUSE, CHAIN, BOUND, COEFFICIENT, LEMMA_NAME, EXPRESSION, TERM}
 use Rattle.ada_tree.specs.declared.kind.Kind.{Kind}
 use Rattle.ada_tree.specs.declared.kind.Kind.TheVariants as kind
 use Rattle.ada_tree.specs.declared.grammar.Choice.{Choice}
 use Rattle.ada_tree.specs.declared.grammar.Choice.TheVariants as choice
 use Rattle.ada_tree.specs.declared.grammar.Comments.{Comments}
 use Rattle.ada_tree.specs.declared.grammar.Comments.TheVariants as comments
-use Rattle.ada_tree.specs.declared.grammar.Logical.{Logical}
-use Rattle.ada_tree.specs.declared.operator.Operator.{Operator}
 use Rattle.ada_tree.specs.declared.operator.Level.{Level}
 use Rattle.ada_tree.specs.declared.operator.Level.TheVariants as level
 use Rattle.ada_tree.specs.declared.operator.Side.{Side}
 use Rattle.ada_tree.specs.declared.operator.Side.TheVariants as side
-use Rattle.ada_tree.specs.declared.operator.Operands.{Operands}
-use Rattle.ada_tree.specs.declared.operator.Operands.TheVariants as operands
 use Rattle.ada_tree.specs.Kinds.{is_kind, is_among}
-use Rattle.ada_tree.specs.Operators.{operator_entry, operator_of}
+use Rattle.ada_tree.specs.Operators.{entry_of}
 
--- the kinds of a choice, apart from those of expressions
+-- ---- the choices
+
+-- Of a choice: its kinds, apart from the one of `Only` and those of expressions; the loosest level of an expression that stands there without parentheses, where expressions stand there; and which comments the members of a list of it take, and the list.
+abbrev pub Row : Type 0
+Row = record { now : List Kind } × Option Level × Comments
+
+-- alternatives and handlers have the comments before the first one alone, and a file keeps its own
+abbrev pub comments_of_kind : Kind → Comments
+comments_of_kind kind.Handler = comments.First
+comments_of_kind kind.Alt = comments.First
+comments_of_kind kind.File = comments.Kept
+comments_of_kind _ = comments.Nowhere
+
+abbrev pub row_of : Choice → Row
+row_of (choice.Only k) = (record { now = [] }, None, comments_of_kind k)
+row_of choice.Item = ITEM
+row_of choice.Clause = CLAUSE
+row_of choice.Lib = LIB
+row_of choice.Spec = SPEC
+row_of choice.Mark = MARK
+row_of choice.Decl = DECL
+row_of choice.Tdef = TDEF
+row_of choice.Dis = DIS
+row_of choice.Choices = CHOICES
+row_of choice.Choice = CHOICE
+row_of choice.Stmt = STMT
+row_of choice.Head = HEAD
+row_of choice.Expr = EXPR
+row_of choice.Arg = ARG
+row_of choice.Wclause = WCLAUSE
+row_of (choice.Operand l) = (record { now = [] }, Some l, comments.Nowhere)
+row_of (choice.Chain o) = CHAIN
+row_of choice.Bound = BOUND
+row_of choice.Coefficient = COEFFICIENT
+row_of choice.LemmaName = LEMMA_NAME
+
 abbrev pub kinds : Choice → List Kind
-kinds (choice.Only k) = []
-kinds choice.Item = kind.Unit ∷ kind.Trait ∷ kind.Proof ∷ kind.Orphan ∷ []
-kinds choice.Clause = kind.With ∷ kind.Use ∷ []
-kinds choice.Lib = kind.Pack ∷ kind.Body ∷ kind.SubDecl ∷ kind.SubBody ∷ []
-kinds choice.Spec = kind.Proc ∷ kind.Func ∷ []
-kinds choice.Mark = kind.Name ∷ kind.Select ∷ []
-kinds choice.Decl = kind.Obj ∷ kind.Const ∷ kind.Num ∷ kind.TypeDecl ∷ kind.Subtype ∷ kind.Exc ∷ kind.Private ∷ kind.View ∷ kind.SubDecl ∷ kind.SubBody ∷ kind.Use ∷ []
-kinds choice.Tdef = kind.Enum ∷ kind.Range ∷ kind.Arr ∷ kind.Rec ∷ []
-kinds choice.Dis = kind.Span ∷ kind.Name ∷ kind.Select ∷ kind.RangeOf ∷ []
-kinds choice.Choices = kind.Others ∷ kind.Choices ∷ []
-kinds choice.Choice = kind.Span ∷ []
-kinds choice.Stmt = kind.Null ∷ kind.Assign ∷ kind.Call ∷ kind.If ∷ kind.Case ∷ kind.Loop ∷ kind.Block ∷ kind.Exit ∷ kind.Return ∷ kind.Raise ∷ kind.Assert ∷ []
-kinds choice.Head = kind.While ∷ kind.For ∷ kind.Reverse ∷ []
-kinds choice.Expr = []
-kinds choice.Arg = kind.Assoc ∷ []
-kinds choice.Wclause = kind.Global ∷ kind.In ∷ kind.Out ∷ kind.RaiseC ∷ []
-kinds choice.Term = []
-kinds (choice.Operand l) = []
-kinds (choice.Chain operator) = []
-kinds choice.Bound = []
-kinds choice.Limit = []
-kinds choice.Number = kind.Int ∷ []
-kinds choice.Coefficient = kind.Int ∷ []
-kinds choice.LemmaName = kind.Select ∷ []
+kinds place = (row_of place).0.now
+
+abbrev pub floor : Choice → Option Level
+floor place = (row_of place).1
+
+abbrev pub comments_of : Choice → Comments
+comments_of place = (row_of place).2
 
 -- the kinds of expressions, and in annotations those of terms
 abbrev pub expression_kinds : Bool → List Kind
-expression_kinds false = kind.Binary ∷ kind.Unary ∷ kind.Member ∷ kind.Int ∷ kind.Name ∷ kind.Select ∷ kind.Apply ∷ kind.Attr ∷ kind.Aggr ∷ []
-expression_kinds true = kind.Binary ∷ kind.Unary ∷ kind.Int ∷ kind.Name ∷ kind.Select ∷ kind.Apply ∷ kind.Attr ∷ kind.Old ∷ kind.Result ∷ kind.All ∷ kind.Exists ∷ kind.Cond ∷ kind.Make ∷ []
+expression_kinds false = EXPRESSION.now
+expression_kinds true = TERM.now
 
--- the loosest level of an expression that stands at a place without parentheses, where expressions stand there
-abbrev pub floor : Choice → Option Level
-floor choice.Expr = Some level.Term
-floor choice.Term = Some level.Term
-floor choice.Arg = Some level.Term
-floor choice.Choice = Some level.Term
-floor choice.Limit = Some level.Term
-floor choice.Bound = Some level.Sum
-floor (choice.Operand l) = Some l
-floor (choice.Chain operator) = Some level.Relation
-floor _ = None
+-- ---- levels
 
 -- a greater rank binds tighter
 abbrev pub rank : Level → ℕ
-rank level.Term = 0
-rank level.Equivalence = 1
-rank level.Implication = 2
-rank level.Logical = 3
-rank level.Relation = 4
-rank level.Sum = 5
-rank level.Signed = 6
-rank level.Product = 7
-rank level.Factor = 8
-rank level.Primary = 9
-rank level.Prefix = 10
+rank l = tag_of level_row.the_type l
 
 -- a side has the operators of both sides and its own
 abbrev pub has_side : Bool → Side → Bool
@@ -83,65 +81,66 @@ has_side note side.Both = true
 has_side note side.Ada = not note
 has_side note side.Note = note
 
-abbrev pub level_on_side : Bool → Option Operator → Option Level
-level_on_side note None = None
-level_on_side note (Some o) = if has_side note (operator_entry o).side then Some (operator_entry o).level else None
+abbrev pub has_operator : Bool → Kind → List ℕ → Bool
+has_operator note k text = option_map_or (λ entry. has_side note entry.side) (entry_of k text) false
 
--- how tightly a node of an expression binds
-abbrev pub level_of : Bool → Kind → List ℕ → Option Level
-level_of note kind.Binary text = level_on_side note (operator_of kind.Binary text)
-level_of note kind.Unary text = level_on_side note (operator_of kind.Unary text)
-level_of note kind.Member text = level_on_side note (operator_of kind.Member text)
-level_of note kind.Make text = level_on_side note (operator_of kind.Make text)
-level_of note kind.All text = Some level.Term
-level_of note kind.Exists text = Some level.Term
-level_of note kind.Cond text = Some level.Term
-level_of note kind.Old text = Some level.Primary
-level_of note _ text = Some level.Prefix
+-- a node has an operator of the side, where nodes of its kind have one
+abbrev pub on_side : Bool → Kind → List ℕ → Bool
+on_side note kind.Binary text = has_operator note kind.Binary text
+on_side note kind.Unary text = has_operator note kind.Unary text
+on_side note kind.Member text = has_operator note kind.Member text
+on_side note kind.Make text = has_operator note kind.Make text
+on_side note _ text = true
 
-abbrev pub is_row_of : Logical → Operands → Bool
-is_row_of wanted (operands.Row operator right) = sameb logical_row.the_type wanted operator
-is_row_of wanted _ = false
+abbrev pub operator_level : Kind → List ℕ → Option Level
+operator_level k text = option_map_or (λ entry. Some entry.level) (entry_of k text) None
 
-abbrev pub joins : Logical → Option Operator → Bool
-joins wanted None = false
-joins wanted (Some o) = is_row_of wanted (operator_entry o).operands
-
--- what and, or, xor, and then, or else have joined already is their left operand as it is
-abbrev pub goes_on : Choice → Kind → List ℕ → Bool
-goes_on (choice.Chain operator) k text = is_kind k kind.Binary && joins operator (operator_of kind.Binary text)
-goes_on _ k text = false
+-- how tightly a node of an expression or a term binds
+abbrev pub level_of : Kind → List ℕ → Option Level
+level_of kind.Binary text = operator_level kind.Binary text
+level_of kind.Unary text = operator_level kind.Unary text
+level_of kind.Member text = operator_level kind.Member text
+level_of kind.Make text = operator_level kind.Make text
+level_of kind.All text = Some level.Term
+level_of kind.Exists text = Some level.Term
+level_of kind.Cond text = Some level.Term
+level_of kind.Old text = Some level.Primary
+level_of kind.Int text = Some level.Prefix
+level_of kind.Name text = Some level.Prefix
+level_of kind.Select text = Some level.Prefix
+level_of kind.Apply text = Some level.Prefix
+level_of kind.Attr text = Some level.Prefix
+level_of kind.Aggr text = Some level.Prefix
+level_of kind.Result text = Some level.Prefix
+level_of _ text = None
 
 abbrev pub is_tight : Level → Option Level → Bool
 is_tight least None = false
 is_tight least (Some l) = nat_le (rank least) (rank l)
 
+-- ---- what stands at a place
+
+-- what an operator of a row has joined already is its left operand as it is
+abbrev pub goes_on : Choice → Kind → List ℕ → Bool
+goes_on (choice.Chain o) k text = option_map_or (λ entry. sameb operator_row.the_type entry.operator o) (entry_of k text) false
+goes_on _ k text = false
+
 abbrev pub binds : Bool → Choice → Option Level → Kind → List ℕ → Bool
 binds note place None k text = false
-binds note place (Some least) k text = is_among k (expression_kinds note) && is_some (level_of note k text) && (is_tight least (level_of note k text) || goes_on place k text)
+binds note place (Some least) k text = is_among k (expression_kinds note) && on_side note k text && (is_tight least (level_of k text) || goes_on place k text)
 
 abbrev pub is_coefficient : Choice → Kind → List ℕ → Bool
-is_coefficient choice.Coefficient k text = is_kind k kind.Unary && bytes_eq text (45 ∷ [])
+is_coefficient choice.Coefficient k text = is_kind k kind.Unary && bytes_eq text (codes "-")
 is_coefficient _ k text = false
 
-abbrev pub is_only : Choice → Kind → Bool
-is_only (choice.Only wanted) k = is_kind wanted k
-is_only _ k = false
+abbrev pub is_only : Bool → Choice → Kind → List ℕ → Bool
+is_only note (choice.Only wanted) k text = is_kind wanted k && on_side note k text
+is_only note _ k text = false
 
 -- A node of this kind with this text may stand at the place as it is, without parentheses. `note` tells that the place is in an annotation.
 abbrev pub stands : Bool → Choice → Kind → List ℕ → Bool
-stands note place k text = is_only place k || is_among k (kinds place) || is_coefficient place k text || binds note place (floor place) k text
+stands note place k text = is_only note place k text || is_among k (kinds place) || is_coefficient place k text || binds note place (floor place) k text
 
 -- an expression may stand there in parentheses
 abbrev pub opens : Choice → Bool
 opens place = is_some (floor place)
-
--- which comments the members of a list of this choice take, and the list
-abbrev pub comments_of : Choice → Comments
-comments_of choice.Item = comments.Each
-comments_of choice.Decl = comments.Each
-comments_of choice.Stmt = comments.Each
-comments_of (choice.Only kind.Handler) = comments.First
-comments_of (choice.Only kind.Alt) = comments.First
-comments_of (choice.Only kind.File) = comments.Kept
-comments_of _ = comments.Nowhere

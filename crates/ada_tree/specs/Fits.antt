@@ -7,7 +7,7 @@ use Rattle.ada_tree.specs.Tokens.{Event}
 use Rattle.ada_tree.specs.Spelling.{SpellsNode}
 use Rattle.ada_tree.specs.Reading.{IsNested}
 
--- Some text spells the document, and its nodes and proof steps are nested within the limits. So its kinds, texts and comments are those of the grammar, and a closing name is the unit's own.
+-- Some tokens, with comments at their places, spell the document, and its nodes and proof steps are nested within the limits. So its kinds, own texts, comments and the order of its kids are those of the grammar. That a text of it has at most so many open parentheses follows: canonical text does.
 pub record Fits (root : Node) : Type 0 where
   pub events : List Event
   pub spelling : SpellsNode false (Only kind.Doc) root events []

@@ -1,6 +1,7 @@
 -- How items are laid out: one blank between tokens, three for each step of indentation, `--| ` before each line of an annotation.
 use Rattle.std.specs.Prelude.{ℕ, suc, ◌-◌, ◌*◌, List, [], ◌∷◌, ◌++◌, Bool, true, false, ◌||◌, if◌then◌else◌, Option, Some, None, replicate, codes, slice_get}
 use denote.Enum.Bare.{sameb}
+use Rattle.base_kit.specs.Bytes as byte
 use Rattle.ada_tree.specs.contracts.word.Mark as mark_row
 use Rattle.std.specs.List.{list_any}
 use Rattle.ada_tree.specs.declared.kind.Kind.TheVariants as kind
@@ -26,7 +27,7 @@ abbrev pub start : Pen
 start = record { depth = 0; outer = None; is_fresh = true; is_tight = false }
 
 abbrev pub blanks : ℕ → List ℕ
-blanks steps = replicate (3 * steps) 32
+blanks steps = replicate (3 * steps) byte.space
 
 -- what a line begins with
 abbrev pub margin : ℕ → Option ℕ → List ℕ
@@ -50,14 +51,14 @@ abbrev pub has_no_blank_after : Lexeme → Bool
 has_no_blank_after lexeme = is_one_of (mark.Open ∷ mark.OpenBracket ∷ mark.Tick ∷ mark.Dot ∷ []) lexeme
 
 abbrev pub gap : Pen → Bool → List ℕ
-gap pen no_blank = if pen.is_fresh then margin pen.depth pen.outer else if pen.is_tight || no_blank then [] else 32 ∷ []
+gap pen no_blank = if pen.is_fresh then margin pen.depth pen.outer else if pen.is_tight || no_blank then [] else byte.space ∷ []
 
 abbrev pub after_token : Pen → Bool → Pen
 after_token pen tight = record pen { is_fresh = false; is_tight = tight }
 
 -- the line ends, if anything stands in it
 abbrev pub line_end : Pen → List ℕ
-line_end pen = if pen.is_fresh then [] else 10 ∷ []
+line_end pen = if pen.is_fresh then [] else byte.line_feed ∷ []
 
 -- at the beginning of a line, so deep, in an annotation or not
 abbrev pub fresh : ℕ → Option ℕ → Pen
@@ -73,7 +74,7 @@ render pen (indent ∷ items) = line_end pen ++ render (fresh (suc pen.depth) pe
 render pen (outdent ∷ items) = line_end pen ++ render (fresh (pen.depth - 1) pen.outer) items
 render pen (note_on ∷ items) = line_end pen ++ render (fresh pen.depth (Some pen.depth)) items
 render pen (note_off ∷ items) = line_end pen ++ render (fresh pen.depth None) items
-render pen (comment_line text ∷ items) = line_end pen ++ margin pen.depth pen.outer ++ text ++ 10 ∷ render (fresh pen.depth pen.outer) items
+render pen (comment_line text ∷ items) = line_end pen ++ margin pen.depth pen.outer ++ text ++ byte.line_feed ∷ render (fresh pen.depth pen.outer) items
 
 abbrev pub file_text : Option Node → List ℕ
 file_text None = []

@@ -94,16 +94,16 @@ keeps_comments _ = false
 
 -- the place of an argument that is one node
 abbrev pub argument_place : Argument → Option Choice
-argument_place argument.Number = Some choice.Number
+argument_place argument.Number = Some (choice.Only kind.Int)
 argument_place argument.Name = Some (choice.Only kind.Name)
 argument_place argument.LemmaName = Some choice.LemmaName
-argument_place argument.Term = Some choice.Term
+argument_place argument.Term = Some choice.Expr
 argument_place _ = None
 
 -- the place of the members of an argument that is a list
 abbrev pub listed_place : Argument → Option Choice
 listed_place argument.Names = Some (choice.Only kind.Name)
-listed_place argument.Terms = Some choice.Term
+listed_place argument.Terms = Some choice.Expr
 listed_place argument.Coefficients = Some choice.Coefficient
 listed_place _ = None
 
@@ -231,7 +231,7 @@ mutual
         → argument_place a ≡ Some place → is_silent node ≡ true → SpellsNode note place node events middle → SpellsArguments note others nodes middle rest
         → SpellsArguments note (a ∷ others) (node ∷ nodes) events rest
     in_number : {note : Bool} {node : Node} {events rest : List Event}
-        → is_silent node ≡ true → SpellsNode note choice.Number node events rest
+        → is_silent node ≡ true → SpellsNode note (choice.Only kind.Int) node events rest
         → SpellsArguments note (argument.InNumber ∷ []) (node ∷ []) (spelled note (a_word word.In) ∷ events) rest
     no_in_number : {note : Bool} {events : List Event} → SpellsArguments note (argument.InNumber ∷ []) [] events events
     a_list : {note : Bool} {a : Argument} {place : Choice} {nodes : List Node} {events rest : List Event}

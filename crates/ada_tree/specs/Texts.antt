@@ -8,8 +8,11 @@ use Rattle.ada_tree.specs.declared.word.Mark.{Mark}
 use Rattle.ada_tree.specs.declared.word.Mark.TheVariants as mark
 use Rattle.ada_tree.specs.declared.grammar.Own.{Own}
 use Rattle.ada_tree.specs.declared.grammar.Own.TheVariants as own
-use Rattle.ada_tree.specs.Words.{reserved_words, note_words, word_of, mark_of}
-use Rattle.ada_tree.specs.Operators.{operators, operator_text}
+use Rattle.ada_tree.specs.declared.limits.TheConstants.{LONGEST_NAME, LONGEST_NUMBER}
+use Rattle.ada_tree.specs.declared.operator.TheConstants.{OPERATORS}
+use Rattle.ada_tree.specs.declared.word.TheConstants.{WORDS}
+use Rattle.base_kit.specs.Bytes as byte
+use Rattle.ada_tree.specs.Words.{WordRow, reserved_words, note_words, word_of, mark_of}
 use Rattle.ada_tree.specs.Tokens.{a_name, a_number, a_word, a_mark}
 use Rattle.ada_tree.specs.Items.{Item, put, put_small, glue}
 
@@ -29,19 +32,19 @@ begins test (b ∷ bytes) = test b
 -- no underscore stands first, last or after another; `after` tells that one, or nothing, has just stood
 abbrev pub is_spaced : Bool → List ℕ → Bool
 is_spaced after [] = not after
-is_spaced after (b ∷ bytes) = if b == 95 then not after && is_spaced true bytes else is_spaced false bytes
+is_spaced after (b ∷ bytes) = if b == byte.underscore then not after && is_spaced true bytes else is_spaced false bytes
 
 -- a letter, and then letters and digits, with single underscores between them
 abbrev pub is_identifier : List ℕ → Bool
-is_identifier text = begins is_ascii_alphabetic text && list_all (λ b. is_ascii_alphanumeric b || b == 95) text && is_spaced true text
+is_identifier text = begins is_ascii_alphabetic text && list_all (λ b. is_ascii_alphanumeric b || b == byte.underscore) text && is_spaced true text
 
 -- whichever case its letters have
-abbrev pub is_word_among : List Word → List ℕ → Bool
-is_word_among words text = is_some (word_of words (map to_ascii_lowercase text))
+abbrev pub is_word_among : List WordRow → List ℕ → Bool
+is_word_among rows text = is_some (word_of rows (map to_ascii_lowercase text))
 
--- an identifier that is no word, of at most 120 bytes; the words of annotations are ordinary identifiers in Ada text
+-- an identifier that is no word, of a length within the limit; the words of annotations are ordinary identifiers in Ada text
 abbrev pub is_free : Bool → List ℕ → Bool
-is_free note text = is_identifier text && nat_le (length text) 120 && not (is_word_among reserved_words text) && not (note && is_word_among note_words text)
+is_free note text = is_identifier text && nat_le (length text) LONGEST_NAME && not (is_word_among reserved_words text) && not (note && is_word_among note_words text)
 
 abbrev pub is_big : Bool → List ℕ → Bool
 is_big note text = is_free note text && is_upper_case text
@@ -50,7 +53,7 @@ abbrev pub is_small : List ℕ → Bool
 is_small text = is_free true text && is_lower_case text
 
 abbrev pub is_at_sign : ℕ → Bool
-is_at_sign b = b == 64
+is_at_sign b = b == byte.at_sign
 
 -- an identifier or `return`, and a small identifier after `@`
 abbrev pub is_joined : List ℕ → List ℕ → Bool
@@ -60,14 +63,14 @@ is_joined front back = (is_big true front || bytes_eq front (codes "return")) &&
 abbrev pub is_name : Bool → List ℕ → Bool
 is_name note text = if list_any is_at_sign text then note && is_joined (before_first is_at_sign text) (after_first is_at_sign text) else is_big note text
 
--- at most 18 digits, the first no 0 unless it is the only one
+-- digits, as many as the limit allows, the first no 0 unless it is the only one
 abbrev pub is_number : List ℕ → Bool
-is_number text = begins is_ascii_digit text && list_all is_ascii_digit text && nat_le (length text) 18 && (nat_le (length text) 1 || not (begins (λ b. b == 48) text))
+is_number text = begins is_ascii_digit text && list_all is_ascii_digit text && nat_le (length text) LONGEST_NUMBER && (nat_le (length text) 1 || not (begins (λ b. b == byte.digit_zero) text))
 
 -- ---- keys: names, a label and a number between dots
 
 abbrev pub is_dot : ℕ → Bool
-is_dot b = b == 46
+is_dot b = b == byte.dot
 
 abbrev pub is_label : List ℕ → Bool
 is_label text = bytes_eq text (codes "entry") || is_small text
@@ -86,10 +89,10 @@ is_key text = are_key (slice_split is_dot text)
 
 -- LF, VT, FF and CR
 abbrev pub ends_line : ℕ → Bool
-ends_line b = nat_le 10 b && nat_le b 13
+ends_line b = nat_le byte.line_feed b && nat_le b byte.carriage_return
 
 abbrev pub is_blank : ℕ → Bool
-is_blank b = b == 32 || b == 9
+is_blank b = b == byte.space || b == byte.tabulator
 
 abbrev pub ends_blank : List ℕ → Bool
 ends_blank [] = false
@@ -118,7 +121,7 @@ fits_own note own.Closing text = is_name note text
 fits_own note own.Num text = is_number text
 fits_own note own.Mode text = is_mode text
 fits_own note own.GlobalMode text = is_global_mode text
-fits_own note own.Operator text = list_any (λ o. bytes_eq (operator_text o) text) operators
+fits_own note own.Operator text = list_any (λ row. bytes_eq row.1.now text) OPERATORS
 fits_own note own.Rule text = is_rule text
 fits_own note own.Key text = is_key text
 
@@ -134,7 +137,7 @@ mark_items (Some m) = put (a_mark m) ∷ []
 
 -- words and marks with blanks between them
 abbrev pub symbol_items : List ℕ → List Item
-symbol_items text = flat_map (λ part. word_items (word_of (reserved_words ++ note_words) part) ++ mark_items (mark_of part)) (slice_split (λ b. b == 32) text)
+symbol_items text = flat_map (λ part. word_items (word_of WORDS part) ++ mark_items (mark_of part)) (slice_split (λ b. b == byte.space) text)
 
 abbrev pub front_item : List ℕ → Item
 front_item text = if bytes_eq text (codes "return") then put (a_word word.Return) else put (a_name text)

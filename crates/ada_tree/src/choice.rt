@@ -1,60 +1,131 @@
 // The choices of the grammar: which nodes may stand at a place, and which lists take comments.
 ghost use Rattle.std.specs.Prelude.{◌≡◌};
 ghost use Rattle.ada_tree.specs.Kinds.{is_among};
-ghost use Rattle.ada_tree.specs.Choices.{kinds, expression_kinds, floor, has_side, level_on_side, level_of, joins, goes_on, is_tight, binds, stands, opens, comments_of};
+ghost use Rattle.ada_tree.specs.Choices.{kinds, expression_kinds, floor, has_side, on_side, level_of, is_only, goes_on, is_tight, binds, stands, opens, comments_of};
 
-use crate::grammar::{Choice, Comments, Logical};
+use crate::grammar::{Choice, Comments};
 use crate::kind::Kind;
-use crate::operator::{Level, Operands, Operator, Side};
+use crate::operator::{Level, Operator, OperatorEntry, Side};
 
-const ITEM: &[Kind] = &[Kind::Unit, Kind::Trait, Kind::Proof, Kind::Orphan];
+// Of a choice: its kinds, apart from the one of `Only` and those of expressions; the loosest level of
+// an expression that stands there without parentheses, where expressions stand there; and which
+// comments the members of a list of it take, and the list.
+type Row = (&'static [Kind], Option<Level>, Comments);
 
-const CLAUSE: &[Kind] = &[Kind::With, Kind::Use];
+// item = Unit | Trait | Proof | Orphan
+const ITEM: Row = (
+    &[Kind::Unit, Kind::Trait, Kind::Proof, Kind::Orphan],
+    None,
+    Comments::Each,
+);
 
-const LIB: &[Kind] = &[Kind::Pack, Kind::Body, Kind::SubDecl, Kind::SubBody];
+// clause = With | Use
+const CLAUSE: Row = (&[Kind::With, Kind::Use], None, Comments::Nowhere);
 
-const SPEC: &[Kind] = &[Kind::Proc, Kind::Func];
+// lib = Pack | Body | SubDecl | SubBody
+const LIB: Row = (
+    &[Kind::Pack, Kind::Body, Kind::SubDecl, Kind::SubBody],
+    None,
+    Comments::Nowhere,
+);
 
-const MARK: &[Kind] = &[Kind::Name, Kind::Select];
+// spec = Proc | Func
+const SPEC: Row = (&[Kind::Proc, Kind::Func], None, Comments::Nowhere);
 
-const DECL: &[Kind] = &[
-    Kind::Obj,
-    Kind::Const,
-    Kind::Num,
-    Kind::TypeDecl,
-    Kind::Subtype,
-    Kind::Exc,
-    Kind::Private,
-    Kind::View,
-    Kind::SubDecl,
-    Kind::SubBody,
-    Kind::Use,
-];
+// mark = Name | Select
+const MARK: Row = (&[Kind::Name, Kind::Select], None, Comments::Nowhere);
 
-const TDEF: &[Kind] = &[Kind::Enum, Kind::Range, Kind::Arr, Kind::Rec];
+// decl = Obj | Const | Num | Type | Subtype | Exc | Private | View | SubDecl | SubBody | Use
+const DECL: Row = (
+    &[
+        Kind::Obj,
+        Kind::Const,
+        Kind::Num,
+        Kind::TypeDecl,
+        Kind::Subtype,
+        Kind::Exc,
+        Kind::Private,
+        Kind::View,
+        Kind::SubDecl,
+        Kind::SubBody,
+        Kind::Use,
+    ],
+    None,
+    Comments::Each,
+);
 
-const DIS: &[Kind] = &[Kind::Span, Kind::Name, Kind::Select, Kind::RangeOf];
+// tdef = Enum | Range | Arr | Rec
+const TDEF: Row = (
+    &[Kind::Enum, Kind::Range, Kind::Arr, Kind::Rec],
+    None,
+    Comments::Nowhere,
+);
 
-const CHOICES: &[Kind] = &[Kind::Others, Kind::Choices];
+// dis = Span | mark | RangeOf
+const DIS: Row = (
+    &[Kind::Span, Kind::Name, Kind::Select, Kind::RangeOf],
+    None,
+    Comments::Nowhere,
+);
 
-const STMT: &[Kind] = &[
-    Kind::Null,
-    Kind::Assign,
-    Kind::Call,
-    Kind::If,
-    Kind::Case,
-    Kind::Loop,
-    Kind::Block,
-    Kind::Exit,
-    Kind::Return,
-    Kind::Raise,
-    Kind::Assert,
-];
+// choices = Others | Choices
+const CHOICES: Row = (&[Kind::Others, Kind::Choices], None, Comments::Nowhere);
 
-const HEAD: &[Kind] = &[Kind::While, Kind::For, Kind::Reverse];
+// choice = expr | Span
+const CHOICE: Row = (&[Kind::Span], Some(Level::Term), Comments::Nowhere);
 
-const WCLAUSE: &[Kind] = &[Kind::Global, Kind::In, Kind::Out, Kind::RaiseC];
+// stmt = Null | Assign | Call | If | Case | Loop | Block | Exit | Return | Raise | Assert
+const STMT: Row = (
+    &[
+        Kind::Null,
+        Kind::Assign,
+        Kind::Call,
+        Kind::If,
+        Kind::Case,
+        Kind::Loop,
+        Kind::Block,
+        Kind::Exit,
+        Kind::Return,
+        Kind::Raise,
+        Kind::Assert,
+    ],
+    None,
+    Comments::Each,
+);
 
+// head = While | For | Reverse
+const HEAD: Row = (
+    &[Kind::While, Kind::For, Kind::Reverse],
+    None,
+    Comments::Nowhere,
+);
+
+// expr, and in annotations term
+const EXPR: Row = (&[], Some(Level::Term), Comments::Nowhere);
+
+// arg = expr | Assoc
+const ARG: Row = (&[Kind::Assoc], Some(Level::Term), Comments::Nowhere);
+
+// wclause = Global | In | Out | RaiseC
+const WCLAUSE: Row = (
+    &[Kind::Global, Kind::In, Kind::Out, Kind::RaiseC],
+    None,
+    Comments::Nowhere,
+);
+
+// The left operand of an operator of which several stand in a row.
+const CHAIN: Row = (&[], Some(Level::Relation), Comments::Nowhere);
+
+// A bound of a Span or a Range.
+const BOUND: Row = (&[], Some(Level::Sum), Comments::Nowhere);
+
+// A coefficient without a minus.
+const COEFFICIENT: Row = (&[Kind::Int], None, Comments::Nowhere);
+
+// A trait's name and a lemma's.
+const LEMMA_NAME: Row = (&[Kind::Select], None, Comments::Nowhere);
+
+// The kinds of primary and of operators: Binary | Unary | Member | primary.
 const EXPRESSION: &[Kind] = &[
     Kind::Binary,
     Kind::Unary,
@@ -67,6 +138,7 @@ const EXPRESSION: &[Kind] = &[
     Kind::Aggr,
 ];
 
+// The kinds of a term.
 const TERM: &[Kind] = &[
     Kind::Binary,
     Kind::Unary,
@@ -83,7 +155,7 @@ const TERM: &[Kind] = &[
     Kind::Make,
 ];
 
-/// The kinds of expressions, and in annotations those of terms.
+// The kinds of expressions, and in annotations those of terms.
 fn expression_kinds(note: bool) -> &'static [Kind]
     ensures { result.now ≡ expression_kinds note }
 {
@@ -109,28 +181,39 @@ impl Side {
     }
 }
 
-fn level_on_side(note: bool, operator: Option<Operator>) -> Option<Level>
-    ensures { result ≡ level_on_side note operator }
-{
-    let entry = operator?.entry();
-    if entry.side.has(note) {
-        Some(entry.level)
-    } else {
-        None
-    }
-}
-
-// How tightly a node of an expression binds.
-fn level_of(note: bool, kind: Kind, text: &[u8]) -> Option<Level>
-    ensures { result ≡ level_of note kind text.now }
+// Whether a node has an operator of the side, where nodes of its kind have one.
+fn is_on_side(note: bool, kind: Kind, text: &[u8]) -> bool
+    ensures { result ≡ on_side note kind text.now }
 {
     match kind {
         Kind::Binary | Kind::Unary | Kind::Member | Kind::Make => {
-            level_on_side(note, Operator::of(kind, text))
+            match OperatorEntry::of(kind, text) {
+                None => false,
+                Some(entry) => entry.side.has(note),
+            }
+        }
+        _ => true,
+    }
+}
+
+// How tightly a node of an expression or a term binds.
+fn level_of(kind: Kind, text: &[u8]) -> Option<Level>
+    ensures { result ≡ level_of kind text.now }
+{
+    match kind {
+        Kind::Binary | Kind::Unary | Kind::Member | Kind::Make => {
+            Some(OperatorEntry::of(kind, text)?.level)
         }
         Kind::All | Kind::Exists | Kind::Cond => Some(Level::Term),
         Kind::Old => Some(Level::Primary),
-        _ => Some(Level::Prefix),
+        Kind::Int
+        | Kind::Name
+        | Kind::Select
+        | Kind::Apply
+        | Kind::Attr
+        | Kind::Aggr
+        | Kind::Result => Some(Level::Prefix),
+        _ => None,
     }
 }
 
@@ -139,28 +222,20 @@ fn is_tight(least: Level, level: Option<Level>) -> bool
 {
     match level {
         None => false,
-        Some(level) => least as u8 <= level as u8,
-    }
-}
-
-fn joins(wanted: Logical, operator: Option<Operator>) -> bool
-    ensures { result ≡ joins wanted operator }
-{
-    let Some(operator) = operator else {
-        return false;
-    };
-    match operator.entry().operands {
-        Operands::Row(joined, _) => wanted == joined,
-        _ => false,
+        Some(level) => least <= level,
     }
 }
 
 impl Choice {
-    /// The kinds of the choice, apart from the one of `Only` and those of expressions.
-    pub fn kinds(self) -> &'static [Kind]
-        ensures { result.now ≡ kinds self }
+    fn row(self) -> Row
+        ensures kinds { result.0.now ≡ kinds self }
+        ensures floor { result.1 ≡ floor self }
+        ensures comments { result.2 ≡ comments_of self }
     {
         match self {
+            Choice::Only(Kind::Handler | Kind::Alt) => (&[], None, Comments::First),
+            Choice::Only(Kind::File) => (&[], None, Comments::Kept),
+            Choice::Only(_) => (&[], None, Comments::Nowhere),
             Choice::Item => ITEM,
             Choice::Clause => CLAUSE,
             Choice::Lib => LIB,
@@ -170,43 +245,39 @@ impl Choice {
             Choice::Tdef => TDEF,
             Choice::Dis => DIS,
             Choice::Choices => CHOICES,
-            Choice::Choice => &[Kind::Span],
+            Choice::Choice => CHOICE,
             Choice::Stmt => STMT,
             Choice::Head => HEAD,
-            Choice::Arg => &[Kind::Assoc],
+            Choice::Expr => EXPR,
+            Choice::Arg => ARG,
             Choice::Wclause => WCLAUSE,
-            Choice::Number | Choice::Coefficient => &[Kind::Int],
-            Choice::LemmaName => &[Kind::Select],
-            Choice::Only(_)
-            | Choice::Expr
-            | Choice::Term
-            | Choice::Operand(_)
-            | Choice::Chain(_)
-            | Choice::Bound
-            | Choice::Limit => &[],
+            Choice::Operand(level) => (&[], Some(level), Comments::Nowhere),
+            Choice::Chain(_) => CHAIN,
+            Choice::Bound => BOUND,
+            Choice::Coefficient => COEFFICIENT,
+            Choice::LemmaName => LEMMA_NAME,
         }
     }
 
-    // The loosest level of an expression that stands here without parentheses.
-    fn floor(self) -> Option<Level>
-        ensures { result ≡ floor self }
+    /// The kinds of the choice, apart from the one of `Only` and those of expressions.
+    pub fn kinds(self) -> &'static [Kind]
+        ensures { result.now ≡ kinds self }
     {
-        match self {
-            Choice::Expr | Choice::Term | Choice::Arg | Choice::Choice | Choice::Limit => {
-                Some(Level::Term)
-            }
-            Choice::Bound => Some(Level::Sum),
-            Choice::Operand(level) => Some(level),
-            Choice::Chain(_) => Some(Level::Relation),
-            _ => None,
-        }
+        self.row().0
     }
 
     /// Whether an expression may stand here in parentheses.
     pub fn opens(self) -> bool
         ensures { result ≡ opens self }
     {
-        self.floor().is_some()
+        self.row().1.is_some()
+    }
+
+    /// Which comments the members of a list of this choice take, and the list.
+    pub fn comments(self) -> Comments
+        ensures { result ≡ comments_of self }
+    {
+        self.row().2
     }
 
     /// Whether a node of this kind with this text may stand here as it is, without parentheses.
@@ -215,7 +286,7 @@ impl Choice {
         ensures { result ≡ stands note self kind text.now }
     {
         match self {
-            Choice::Only(wanted) => wanted == kind,
+            Choice::Only(wanted) => wanted == kind && is_on_side(note, kind, text),
             Choice::Coefficient if kind == Kind::Unary => text == "-".as_bytes(),
             _ => is_among(kind, self.kinds()) || self.binds(note, kind, text),
         }
@@ -224,36 +295,24 @@ impl Choice {
     fn binds(self, note: bool, kind: Kind, text: &[u8]) -> bool
         ensures { result ≡ binds note self (floor self) kind text.now }
     {
-        let Some(least) = self.floor() else {
+        let Some(least) = self.row().1 else {
             return false;
         };
-        let level = level_of(note, kind, text);
         is_among(kind, expression_kinds(note))
-            && level.is_some()
-            && (is_tight(least, level) || self.goes_on(kind, text))
+            && is_on_side(note, kind, text)
+            && (is_tight(least, level_of(kind, text)) || self.goes_on(kind, text))
     }
 
-    // What `and` and the like have joined already is their left operand as it is.
+    // What an operator of a row has joined already is its left operand as it is.
     fn goes_on(self, kind: Kind, text: &[u8]) -> bool
         ensures { result ≡ goes_on self kind text.now }
     {
-        match self {
-            Choice::Chain(operator) => {
-                kind == Kind::Binary && joins(operator, Operator::of(Kind::Binary, text))
-            }
-            _ => false,
-        }
-    }
-
-    /// Which comments the members of a list of this choice take, and the list.
-    pub fn comments(self) -> Comments
-        ensures { result ≡ comments_of self }
-    {
-        match self {
-            Choice::Item | Choice::Decl | Choice::Stmt => Comments::Each,
-            Choice::Only(Kind::Handler) | Choice::Only(Kind::Alt) => Comments::First,
-            Choice::Only(Kind::File) => Comments::Kept,
-            _ => Comments::Nowhere,
+        let Choice::Chain(operator) = self else {
+            return false;
+        };
+        match OperatorEntry::of(kind, text) {
+            None => false,
+            Some(entry) => entry.operator == operator,
         }
     }
 }

@@ -1,6 +1,6 @@
 // What the lines of the grammar are made of.
 use crate::kind::Kind;
-use crate::operator::Level;
+use crate::operator::{Level, Operator};
 use crate::word::{Mark, Word};
 
 /// What stands at a place of a line: one kind, or a choice of kinds.
@@ -35,33 +35,17 @@ pub enum Choice {
     Arg,
     /// A clause of a `where` block.
     Wclause,
-    /// A term.
-    Term,
     /// An operand: an expression that binds at least so tightly.
     Operand(Level),
-    /// The left operand of `and`, `or`, `xor`, `and then` or `or else`: what this operator joins
+    /// The left operand of an operator of which several stand in a row: what this operator joins
     /// already, or an operand of the level of relations.
-    Chain(Logical),
-    /// A bound of a range of Ada text.
+    Chain(Operator),
+    /// A bound of a Span or a Range: an expression of the level of sums or a tighter one.
     Bound,
-    /// A bound of a quantifier.
-    Limit,
-    /// An argument of a proof step that is a number.
-    Number,
     /// An argument of `linear`: a number that may have a minus.
     Coefficient,
     /// An argument of `lemma`: a trait's name and a lemma's.
     LemmaName,
-}
-
-/// The operators of which one kind stands in a row.
-#[derive(Clone, Copy, Debug, PartialEq, Eq)]
-pub enum Logical {
-    And,
-    Or,
-    Xor,
-    AndThen,
-    OrElse,
 }
 
 /// A node's own text, as it stands in its line.

@@ -1,7 +1,7 @@
 // The kinds of node.
 
-/// What a node of the tree is. Every kind but `Doc`, `List` and `None` has its line in the grammar
-/// (`specs/Lines`).
+/// What a node of the tree is. Every kind but `List` and `None` has its line in the grammar
+/// (`src/lines.rt`).
 #[derive(Clone, Copy, Debug, PartialEq, Eq)]
 pub enum Kind {
     /// All files, in the order in which they were given.

@@ -1,5 +1,6 @@
 // The rules of proof, by their names, and the arguments of each.
-ghost use Rattle.std.specs.Prelude.{◌≡◌};
+ghost use Rattle.std.specs.Prelude.{◌≡◌, bytes_eq};
+ghost use Rattle.ada_tree.specs.Tables.{first_value};
 ghost use Rattle.ada_tree.specs.Rules.{rule_text, rule_of, rule_arguments, arguments_of};
 
 use crate::grammar::Argument;
@@ -45,139 +46,85 @@ pub enum ProofRule {
     IfGoal,
 }
 
-/// All rules of proof.
-pub const PROOF_RULES: [ProofRule; 35] = [
-    ProofRule::Open,
-    ProofRule::Hyp,
-    ProofRule::Absurd,
-    ProofRule::Refl,
-    ProofRule::AndGoal,
-    ProofRule::AndHyp,
-    ProofRule::OrGoal,
-    ProofRule::OrHyp,
-    ProofRule::ImpGoal,
-    ProofRule::ImpHyp,
-    ProofRule::NotGoal,
-    ProofRule::NotHyp,
-    ProofRule::IffGoal,
-    ProofRule::IffHyp,
-    ProofRule::Contra,
-    ProofRule::AllGoal,
-    ProofRule::AllHyp,
-    ProofRule::SomeGoal,
-    ProofRule::SomeHyp,
-    ProofRule::Rewrite,
-    ProofRule::Unfold,
-    ProofRule::Range,
-    ProofRule::Cut,
-    ProofRule::Cases,
-    ProofRule::Antisym,
-    ProofRule::Induct,
-    ProofRule::Descend,
-    ProofRule::Linear,
-    ProofRule::Simplify,
-    ProofRule::Lemma,
-    ProofRule::Drop,
-    ProofRule::SelectSame,
-    ProofRule::SelectOther,
-    ProofRule::SelectFill,
-    ProofRule::IfGoal,
-];
+macro_rules! rows {
+    ($($rule:ident $text:literal [$($argument:ident)*];)*) => {
+        [$((ProofRule::$rule, $text, &[$(Argument::$argument),*])),*]
+    };
+}
+
+/// The rules of proof, in the order of `ProofRule`: the rule's name, in lower case, and the arguments
+/// of a step by it, in order.
+pub const PROOF_RULES: [(ProofRule, &str, &[Argument]); 35] = rows! {
+    Open "open" [];
+    Hyp "hyp" [Number];
+    Absurd "absurd" [Number];
+    Refl "refl" [];
+    AndGoal "and_goal" [];
+    AndHyp "and_hyp" [Number];
+    OrGoal "or_goal" [Number];
+    OrHyp "or_hyp" [Number];
+    ImpGoal "imp_goal" [];
+    ImpHyp "imp_hyp" [Number];
+    NotGoal "not_goal" [];
+    NotHyp "not_hyp" [Number];
+    IffGoal "iff_goal" [];
+    IffHyp "iff_hyp" [Number];
+    Contra "contra" [];
+    AllGoal "all_goal" [Name];
+    AllHyp "all_hyp" [Number Term];
+    SomeGoal "some_goal" [Term];
+    SomeHyp "some_hyp" [Number Name];
+    Rewrite "rewrite" [Number InNumber];
+    Unfold "unfold" [Name InNumber];
+    Range "range" [Term];
+    Cut "cut" [Term];
+    Cases "cases" [Term];
+    Antisym "antisym" [];
+    Induct "induct" [Name Names];
+    Descend "descend" [Name];
+    Linear "linear" [Coefficients];
+    Simplify "simplify" [];
+    Lemma "lemma" [LemmaName Terms];
+    Drop "drop" [Number];
+    SelectSame "select_same" [];
+    SelectOther "select_other" [];
+    SelectFill "select_fill" [];
+    IfGoal "if_goal" [];
+};
 
 impl ProofRule {
     /// The rule's name, in lower case.
     pub fn text(self) -> &'static str
         ensures { result.now ≡ rule_text self }
     {
-        match self {
-            ProofRule::Open => "open",
-            ProofRule::Hyp => "hyp",
-            ProofRule::Absurd => "absurd",
-            ProofRule::Refl => "refl",
-            ProofRule::AndGoal => "and_goal",
-            ProofRule::AndHyp => "and_hyp",
-            ProofRule::OrGoal => "or_goal",
-            ProofRule::OrHyp => "or_hyp",
-            ProofRule::ImpGoal => "imp_goal",
-            ProofRule::ImpHyp => "imp_hyp",
-            ProofRule::NotGoal => "not_goal",
-            ProofRule::NotHyp => "not_hyp",
-            ProofRule::IffGoal => "iff_goal",
-            ProofRule::IffHyp => "iff_hyp",
-            ProofRule::Contra => "contra",
-            ProofRule::AllGoal => "all_goal",
-            ProofRule::AllHyp => "all_hyp",
-            ProofRule::SomeGoal => "some_goal",
-            ProofRule::SomeHyp => "some_hyp",
-            ProofRule::Rewrite => "rewrite",
-            ProofRule::Unfold => "unfold",
-            ProofRule::Range => "range",
-            ProofRule::Cut => "cut",
-            ProofRule::Cases => "cases",
-            ProofRule::Antisym => "antisym",
-            ProofRule::Induct => "induct",
-            ProofRule::Descend => "descend",
-            ProofRule::Linear => "linear",
-            ProofRule::Simplify => "simplify",
-            ProofRule::Lemma => "lemma",
-            ProofRule::Drop => "drop",
-            ProofRule::SelectSame => "select_same",
-            ProofRule::SelectOther => "select_other",
-            ProofRule::SelectFill => "select_fill",
-            ProofRule::IfGoal => "if_goal",
-        }
+        PROOF_RULES[self as usize].1
     }
 
     /// The rule of this name.
     pub fn of(text: &[u8]) -> Option<ProofRule>
         ensures { result ≡ rule_of text.now }
     {
-        PROOF_RULES
-            .iter()
-            .copied()
-            .find(|rule| rule.text().as_bytes() == text)
+        rule_in(&PROOF_RULES, text)
     }
 
     /// The arguments of a step by this rule, in order.
     pub fn arguments(self) -> &'static [Argument]
         ensures { result.now ≡ rule_arguments self }
     {
-        match self {
-            ProofRule::Open
-            | ProofRule::Refl
-            | ProofRule::AndGoal
-            | ProofRule::ImpGoal
-            | ProofRule::NotGoal
-            | ProofRule::IffGoal
-            | ProofRule::Contra
-            | ProofRule::Antisym
-            | ProofRule::Simplify
-            | ProofRule::SelectSame
-            | ProofRule::SelectOther
-            | ProofRule::SelectFill
-            | ProofRule::IfGoal => &[],
-            ProofRule::Hyp
-            | ProofRule::Absurd
-            | ProofRule::AndHyp
-            | ProofRule::OrGoal
-            | ProofRule::OrHyp
-            | ProofRule::ImpHyp
-            | ProofRule::NotHyp
-            | ProofRule::IffHyp
-            | ProofRule::Drop => &[Argument::Number],
-            ProofRule::AllGoal | ProofRule::Descend => &[Argument::Name],
-            ProofRule::AllHyp => &[Argument::Number, Argument::Term],
-            ProofRule::SomeGoal | ProofRule::Range | ProofRule::Cut | ProofRule::Cases => &[
-                Argument::Term,
-            ],
-            ProofRule::SomeHyp => &[Argument::Number, Argument::Name],
-            ProofRule::Rewrite => &[Argument::Number, Argument::InNumber],
-            ProofRule::Unfold => &[Argument::Name, Argument::InNumber],
-            ProofRule::Induct => &[Argument::Name, Argument::Names],
-            ProofRule::Linear => &[Argument::Coefficients],
-            ProofRule::Lemma => &[Argument::LemmaName, Argument::Terms],
+        PROOF_RULES[self as usize].2
+    }
+}
+
+// The rule of this name in this table.
+fn rule_in(rows: &[(ProofRule, &str, &[Argument])], text: &[u8]) -> Option<ProofRule>
+    ensures { result ≡ first_value (λ row. row.0) (λ row. bytes_eq row.1.now text.now) rows.now }
+{
+    for (rule, written, _) in rows {
+        if written.as_bytes() == text {
+            return Some(*rule);
         }
     }
+    None
 }
 
 /// The arguments of a step by the rule of this name: none where there is no such rule.

@@ -343,6 +343,32 @@ fn every_byte_is_a_token_a_blank_or_a_fault(rt: HostRuntime) -> Result<(), Fail>
     Ok(())
 }
 
+// A text of so many names, each on a line of its own.
+fn names(alloc: Global, count: u32) -> Result<Vec<u8>, Memory> {
+    let mut text = Vec::new(alloc);
+    for _ in 0..count {
+        text.extend_from_slice(b"Name\n")?;
+    }
+    Ok(text)
+}
+
+fn tokens_of_names(alloc: Global, count: u32) -> Result<Option<usize>, Memory> {
+    let text = names(alloc, count)?;
+    if text.len() >= 1 << 32 {
+        return Ok(None);
+    }
+    Ok(match tokens(alloc, text.as_slice()) {
+        Ok(found) => Some(found.as_slice().len()),
+        Err(_) => None,
+    })
+}
+
+#[test]
+fn a_long_text_has_its_tokens(rt: HostRuntime) -> Result<(), Fail> {
+    assert_eq!(rt; tokens_of_names(rt.alloc(), 200_000)?, Some(200_000));
+    Ok(())
+}
+
 // ---- what tokens give
 
 // The text of the first token.

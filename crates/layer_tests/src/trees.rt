@@ -5,8 +5,9 @@ ghost use Rattle.ada_tree.specs.declared.kind.Kind.TheVariants as kind;
 ghost use Rattle.ada_tree.specs.Nodes.{node_of};
 
 use ada_tree::{
-    Argument, Choice, Comments, Counts, Doc, Kids, Kind, Level, Mark, Node, Operator, Piece,
-    ProofRule, Word, add_counts, arguments, at, counts, is_same, line, same,
+    Argument, Choice, Comments, Counts, Doc, Kids, Kind, Level, Mark, Node, Operator,
+    OperatorEntry, Piece, ProofRule, Side, Word, add_counts, arguments, at, counts, is_same, line,
+    same,
 };
 use base_kit::{Copied, Memory, Names, Path, Text};
 use std::alloc::Global;
@@ -165,37 +166,65 @@ fn a_document_is_walked_counted_copied_and_compared(rt: HostRuntime) -> Result<(
 }
 
 #[test]
-fn tables_have_the_rows_of_the_language(rt: HostRuntime) -> Result<(), Fail> {
+fn tables_are_looked_up(rt: HostRuntime) {
     assert_eq!(rt; Word::Procedure.text(), "procedure");
+    assert_eq!(rt; Word::Make.text(), "make");
     assert_eq!(rt; Mark::Becomes.text(), ":=");
+    assert_eq!(rt; Mark::of(b"=="), Some(Mark::DoubleEqual));
+    assert_eq!(rt; Mark::of(b"=!"), None);
     assert_eq!(rt; Operator::AndThen.text(), "and then");
-    assert_eq!(rt; Operator::of(Kind::Unary, b"-"), Some(Operator::Minus));
-    assert_eq!(rt; Operator::of(Kind::Binary, b"-"), Some(Operator::Subtract));
-    assert_eq!(rt; Operator::of(Kind::Binary, b"**"), None);
-    assert_eq!(rt; Operator::Rem.entry().level, Level::Product);
+    assert_eq!(rt; Operator::Not.line().len(), 2);
     assert_eq!(rt; ProofRule::of(b"all_hyp"), Some(ProofRule::AllHyp));
     assert_eq!(rt; ProofRule::AllHyp.text(), "all_hyp");
     assert_eq!(rt;
         ProofRule::AllHyp.arguments(),
         [Argument::Number, Argument::Term].as_slice()
     );
-    assert_eq!(rt;
-        arguments(b"rewrite"),
-        [Argument::Number, Argument::InNumber].as_slice()
-    );
     assert_eq!(rt; arguments(b"guess").len(), 0);
+}
+
+#[test]
+fn operators_have_their_side_and_level(rt: HostRuntime) {
+    let minus = OperatorEntry {
+        operator: Operator::Minus,
+        kind: Kind::Unary,
+        side: Side::Both,
+        level: Level::Signed,
+    };
+    assert_eq!(rt; OperatorEntry::of(Kind::Unary, b"-"), Some(minus));
+    assert_eq!(rt; OperatorEntry::of(Kind::Binary, b"**"), None);
+}
+
+#[test]
+fn choices_admit_their_kinds(rt: HostRuntime) {
     assert_eq!(rt; Choice::Clause.kinds(), [Kind::With, Kind::Use].as_slice());
     assert_eq!(rt; Choice::Stmt.comments(), Comments::Each);
     assert!(rt; Choice::Bound.opens());
     assert!(rt; !Choice::Mark.opens());
-    let relation = Choice::Operand(Level::Relation);
-    assert!(rt; relation.admits(false, Kind::Binary, b"="));
-    assert!(rt; !relation.admits(false, Kind::Binary, b"and"));
     assert!(rt; !Choice::Expr.admits(false, Kind::Binary, b"iff"));
     assert!(rt; Choice::Expr.admits(true, Kind::Binary, b"iff"));
     assert_eq!(rt;
         line(Choice::Stmt, Kind::Null, b""),
         [Piece::Word(Word::Null), Piece::Mark(Mark::Semicolon)].as_slice()
     );
+}
+
+// A statement with so many comments.
+fn commented(alloc: Global, count: u32) -> Result<Node, Memory> {
+    let mut node = leaf(alloc, Kind::Null, b"")?;
+    for _ in 0..count {
+        node.notes.push(text(alloc, b"-- one of many")?)?;
+    }
+    Ok(node)
+}
+
+fn comments_are_copied(alloc: Global) -> Result<bool, Memory> {
+    let node = commented(alloc, 20_000)?;
+    Ok(is_same(&node, &node.copy(alloc)?))
+}
+
+#[test]
+fn many_comments_are_copied(rt: HostRuntime) -> Result<(), Fail> {
+    assert!(rt; comments_are_copied(rt.alloc())?);
     Ok(())
 }

@@ -2,6 +2,8 @@
 use Rattle.std.specs.Prelude.{ℕ, zero, suc, ◌+◌, ◌-◌, List, [], ◌∷◌, take, Bool, true, false, not, ◌||◌, ◌==◌, nat_le, if◌then◌else◌, codes, Option, Some, None, Result, Ok, Err}
 use Rattle.std.specs.List.{prefix_len, list_any}
 use Rattle.std.specs.Char.{is_ascii_alphabetic, is_ascii_alphanumeric, is_ascii_digit}
+use Rattle.ada_tree.specs.declared.limits.TheConstants.{LONGEST_NAME, LONGEST_NUMBER}
+use Rattle.base_kit.specs.Bytes as byte
 use Rattle.ada_tree.specs.Texts.{ends_line, is_blank}
 use Rattle.lex_ada.specs.declared.token.Token.{Token}
 use Rattle.lex_ada.specs.declared.token.TokenKind.{TokenKind}
@@ -25,16 +27,16 @@ ends after = if after then Err 0 else Ok 0
 abbrev pub name_length : Bool → ℕ → List ℕ → Result ℕ ℕ
 name_length after count [] = ends after
 name_length after count (b ∷ rest) =
-    if b == 95 then (if after || nat_le 119 count then Err 0 else longer (name_length true (suc count) rest))
-    else if is_ascii_alphanumeric b then (if nat_le 120 count then Err 0 else longer (name_length false (suc count) rest))
+    if b == byte.underscore then (if after || nat_le (LONGEST_NAME - 1) count then Err 0 else longer (name_length true (suc count) rest))
+    else if is_ascii_alphanumeric b then (if nat_le LONGEST_NAME count then Err 0 else longer (name_length false (suc count) rest))
     else ends after
 
 -- after so many digits of it
 abbrev pub number_length : Bool → ℕ → List ℕ → Result ℕ ℕ
 number_length after digits [] = ends after
 number_length after digits (b ∷ rest) =
-    if b == 95 then (if after || nat_le 18 digits then Err 0 else longer (number_length true digits rest))
-    else if is_ascii_digit b then (if nat_le 18 digits then Err 0 else longer (number_length false (suc digits) rest))
+    if b == byte.underscore then (if after || nat_le LONGEST_NUMBER digits then Err 0 else longer (number_length true digits rest))
+    else if is_ascii_digit b then (if nat_le LONGEST_NUMBER digits then Err 0 else longer (number_length false (suc digits) rest))
     else if is_ascii_alphabetic b then Err 0
     else ends after
 
@@ -59,14 +61,14 @@ longer_mark seconds (c ∷ rest) = if list_any (λ second. second == c) seconds 
 -- the longest mark: ** and *, -> and -, .. and ., /= and /, := and :, <= << <> and <, => == and =, >= >> and >, or one of & ' ( ) + , ; | [ ] @
 abbrev pub mark_cut : ℕ → List ℕ → Cut
 mark_cut b rest =
-    if b == 42 then longer_mark (42 ∷ []) rest
-    else if b == 45 then longer_mark (62 ∷ []) rest
-    else if b == 46 then longer_mark (46 ∷ []) rest
-    else if b == 47 then longer_mark (61 ∷ []) rest
-    else if b == 58 then longer_mark (61 ∷ []) rest
-    else if b == 60 then longer_mark (61 ∷ 60 ∷ 62 ∷ []) rest
-    else if b == 61 then longer_mark (62 ∷ 61 ∷ []) rest
-    else if b == 62 then longer_mark (61 ∷ 62 ∷ []) rest
+    if b == byte.asterisk then longer_mark (byte.asterisk ∷ []) rest
+    else if b == byte.dash then longer_mark (byte.greater_than ∷ []) rest
+    else if b == byte.dot then longer_mark (byte.dot ∷ []) rest
+    else if b == byte.slash then longer_mark (byte.equals ∷ []) rest
+    else if b == byte.colon then longer_mark (byte.equals ∷ []) rest
+    else if b == byte.less_than then longer_mark (byte.equals ∷ byte.less_than ∷ byte.greater_than ∷ []) rest
+    else if b == byte.equals then longer_mark (byte.greater_than ∷ byte.equals ∷ []) rest
+    else if b == byte.greater_than then longer_mark (byte.equals ∷ byte.greater_than ∷ []) rest
     else if list_any (λ single. single == b) (codes "&'()+,;|[]@") then Piece kind.Mark 1
     else Bad 0
 
@@ -75,14 +77,14 @@ in_line b = not (ends_line b)
 
 -- at a dash: annotation text begins, or there is a comment to the end of the line, or a mark
 abbrev pub dash_cut : Bool → List ℕ → Cut
-dash_cut note [] = mark_cut 45 []
-dash_cut note (b ∷ text) = if b == 45 then (if begins_note note text then Note else Piece kind.Comment (2 + prefix_len in_line text)) else mark_cut 45 (b ∷ text)
+dash_cut note [] = mark_cut byte.dash []
+dash_cut note (b ∷ text) = if b == byte.dash then (if begins_note note text then Note else Piece kind.Comment (2 + prefix_len in_line text)) else mark_cut byte.dash (b ∷ text)
 
 abbrev pub cut_of : Bool → ℕ → List ℕ → Cut
 cut_of note b rest =
     if ends_line b then LineEnd (if is_return_before_feed b rest then 2 else 1)
     else if is_blank b then Blank
-    else if b == 45 then dash_cut note rest
+    else if b == byte.dash then dash_cut note rest
     else if is_ascii_alphabetic b then word_piece note (b ∷ rest) (name_length false 0 (b ∷ rest))
     else if is_ascii_digit b then number_piece (number_length false 0 (b ∷ rest))
     else mark_cut b rest

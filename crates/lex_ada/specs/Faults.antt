@@ -6,6 +6,7 @@ use Rattle.base_kit.specs.declared.fault.Place.TheVariants.{Line}
 use Rattle.base_kit.specs.declared.fault.Fault.{Fault as AFault}
 use Rattle.base_kit.specs.declared.fault.Stop.{Stop}
 use Rattle.base_kit.specs.declared.fault.Stop.TheVariants.{Fault, Memory}
+use Rattle.base_kit.specs.Bytes as byte
 use Rattle.ada_tree.specs.Texts.{ends_line}
 use Rattle.lex_ada.specs.declared.token.Token.{Token}
 use Rattle.lex_ada.specs.Lexis.{is_return_before_feed, AreTokens}
@@ -21,7 +22,7 @@ GoesOn bytes = (more : List ℕ) × (tokens : List Token) × AreTokens (bytes ++
 
 -- printable bytes, HT and the ends of lines
 abbrev pub is_text_byte : ℕ → Bool
-is_text_byte b = (nat_le 32 b && nat_le b 126) || (nat_le 9 b && nat_le b 13)
+is_text_byte b = (nat_le byte.space b && nat_le b byte.tilde) || (nat_le byte.tabulator b && nat_le b byte.carriage_return)
 
 -- what is wrong at the first byte that no token admits, or at the end
 abbrev pub code_at : List ℕ → Code

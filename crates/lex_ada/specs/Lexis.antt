@@ -2,6 +2,8 @@
 use Rattle.std.specs.Prelude.{◌≡◌, ℕ, suc, ◌+◌, ◌≤◌, ◌<◌, List, [], ◌∷◌, ◌++◌, length, count_by, Bool, true, false, not, ◌&&◌, ◌||◌, ◌==◌, nat_le, bytes_eq, is_some, codes}
 use Rattle.std.specs.List.{list_any, list_all}
 use Rattle.std.specs.Char.{is_ascii_alphanumeric, is_ascii_digit}
+use Rattle.ada_tree.specs.declared.limits.TheConstants.{LONGEST_NUMBER}
+use Rattle.base_kit.specs.Bytes as byte
 use Rattle.ada_tree.specs.Words.{reserved_words, note_words, mark_of}
 use Rattle.ada_tree.specs.Texts.{begins, is_spaced, is_word_among, is_free, ends_line, is_blank}
 use Rattle.lex_ada.specs.declared.token.Token.{Token}
@@ -12,11 +14,11 @@ use Rattle.lex_ada.specs.declared.token.TokenKind.TheVariants.{Name, Number, Wor
 
 -- what names, words and numbers are made of
 abbrev pub is_word_byte : ℕ → Bool
-is_word_byte b = is_ascii_alphanumeric b || b == 95
+is_word_byte b = is_ascii_alphanumeric b || b == byte.underscore
 
--- digits with single underscores between them, at most 18 of them
+-- digits with single underscores between them, as many as the limit allows
 abbrev pub is_numeral : List ℕ → Bool
-is_numeral bytes = begins is_ascii_digit bytes && list_all (λ b. is_ascii_digit b || b == 95) bytes && is_spaced true bytes && nat_le (count_by is_ascii_digit bytes) 18
+is_numeral bytes = begins is_ascii_digit bytes && list_all (λ b. is_ascii_digit b || b == byte.underscore) bytes && is_spaced true bytes && nat_le (count_by is_ascii_digit bytes) LONGEST_NUMBER
 
 -- `note` tells that the bytes stand in annotation text, where the words of annotations are words too. A comment is what `Lexed` says.
 abbrev pub spells : Bool → TokenKind → List ℕ → Bool
@@ -35,11 +37,11 @@ goes_on _ bytes b = is_word_byte b
 
 -- a carriage return with the line feed after it ends one line
 abbrev pub is_return_before_feed : ℕ → List ℕ → Bool
-is_return_before_feed b rest = b == 13 && begins (λ c. c == 10) rest
+is_return_before_feed b rest = b == byte.carriage_return && begins (λ c. c == byte.line_feed) rest
 
 -- two dashes and a bar outside annotation text begin it
 abbrev pub begins_note : Bool → List ℕ → Bool
-begins_note note text = not note && begins (λ b. b == 124) text
+begins_note note text = not note && begins (λ b. b == byte.bar) text
 
 abbrev pub token_at : Bool → TokenKind → ℕ → ℕ → ℕ → Token
 token_at note kind start size line = record { kind = kind; start = start; end = start + size; line = line; note = note }
@@ -52,12 +54,12 @@ pub data Lexed : Bool → ℕ → ℕ → List ℕ → List Token → Type 0 whe
   line_end : (note : Bool) (at line b : ℕ) (rest : List ℕ) (tokens : List Token)
       → ends_line b ≡ true → is_return_before_feed b rest ≡ false → Lexed false (suc at) (suc line) rest tokens → Lexed note at line (b ∷ rest) tokens
   two_byte_end : (note : Bool) (at line : ℕ) (rest : List ℕ) (tokens : List Token)
-      → Lexed false (suc (suc at)) (suc line) rest tokens → Lexed note at line (13 ∷ 10 ∷ rest) tokens
+      → Lexed false (suc (suc at)) (suc line) rest tokens → Lexed note at line (byte.carriage_return ∷ byte.line_feed ∷ rest) tokens
   annotation : (at line : ℕ) (rest : List ℕ) (tokens : List Token)
-      → Lexed true (suc (suc (suc at))) line rest tokens → Lexed false at line (45 ∷ 45 ∷ 124 ∷ rest) tokens
+      → Lexed true (suc (suc (suc at))) line rest tokens → Lexed false at line (byte.dash ∷ byte.dash ∷ byte.bar ∷ rest) tokens
   -- two dashes and the rest of the line
   comment : (note : Bool) (at line : ℕ) (bytes text rest : List ℕ) (tokens : List Token)
-      → bytes ≡ 45 ∷ 45 ∷ (text ++ rest) → begins_note note (text ++ rest) ≡ false → list_any ends_line text ≡ false → begins (λ b. not (ends_line b)) rest ≡ false
+      → bytes ≡ byte.dash ∷ byte.dash ∷ (text ++ rest) → begins_note note (text ++ rest) ≡ false → list_any ends_line text ≡ false → begins (λ b. not (ends_line b)) rest ≡ false
       → Lexed note (at + (2 + length text)) line rest tokens → Lexed note at line bytes (token_at false Comment at (2 + length text) line ∷ tokens)
   token : (note : Bool) (kind : TokenKind) (at line : ℕ) (bytes spelling rest : List ℕ) (tokens : List Token)
       → bytes ≡ spelling ++ rest → spells note kind spelling ≡ true → begins (goes_on kind spelling) rest ≡ false

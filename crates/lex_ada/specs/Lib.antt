@@ -3,3 +3,4 @@ pub mod Faults
 pub mod Lexis
 pub mod Meanings
 pub mod Rendered
+pub mod Scans

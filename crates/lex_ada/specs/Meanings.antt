@@ -2,9 +2,11 @@
 use Rattle.std.specs.Prelude.{ℕ, ◌-◌, ◌≤◌, List, [], ◌∷◌, ◌++◌, map, filter, take, drop, reverse, length, Bool, not, ◌==◌, nat_eq, if◌then◌else◌, codes, Option, Some, None}
 use Rattle.std.specs.List.{flat_map, starts_with}
 use Rattle.std.specs.Char.{to_ascii_uppercase, to_ascii_lowercase}
+use Rattle.base_kit.specs.Bytes as byte
 use Rattle.ada_tree.specs.declared.word.Word.{Word}
 use Rattle.ada_tree.specs.declared.word.Mark.{Mark}
-use Rattle.ada_tree.specs.Words.{reserved_words, note_words, word_of, mark_of}
+use Rattle.ada_tree.specs.declared.word.TheConstants.{WORDS}
+use Rattle.ada_tree.specs.Words.{word_of, mark_of}
 use Rattle.ada_tree.specs.Texts.{is_blank}
 use Rattle.ada_tree.specs.Tokens.{a_name, a_number, a_word, a_mark, Sign, token, comment}
 use Rattle.lex_ada.specs.declared.token.Token.{Token}
@@ -21,11 +23,11 @@ name_text bytes = map to_ascii_uppercase bytes
 abbrev pub without_zeros : List ℕ → List ℕ
 without_zeros [] = []
 without_zeros (d ∷ []) = d ∷ []
-without_zeros (d ∷ e ∷ digits) = if d == 48 then without_zeros (e ∷ digits) else d ∷ e ∷ digits
+without_zeros (d ∷ e ∷ digits) = if d == byte.digit_zero then without_zeros (e ∷ digits) else d ∷ e ∷ digits
 
 -- without underscores and leading zeros
 abbrev pub number_text : List ℕ → List ℕ
-number_text bytes = without_zeros (filter (λ b. not (b == 95)) bytes)
+number_text bytes = without_zeros (filter (λ b. not (b == byte.underscore)) bytes)
 
 abbrev pub without_blanks : List ℕ → List ℕ
 without_blanks [] = []
@@ -59,7 +61,7 @@ mark_signs note (Some m) = token note (a_mark m) ∷ []
 abbrev pub meaning : TokenKind → Bool → List ℕ → List Sign
 meaning kind.Name note bytes = token note (a_name (name_text bytes)) ∷ []
 meaning kind.Number note bytes = token note (a_number (number_text bytes)) ∷ []
-meaning kind.Word note bytes = word_signs note (word_of (reserved_words ++ note_words) (map to_ascii_lowercase bytes))
+meaning kind.Word note bytes = word_signs note (word_of WORDS (map to_ascii_lowercase bytes))
 meaning kind.Mark note bytes = mark_signs note (mark_of bytes)
 meaning kind.Comment note bytes = comment (comment_text bytes) ∷ []
 

@@ -4,7 +4,7 @@ use Rattle.std.specs.List.{list_any}
 use denote.Enum.Bare.{sameb}
 use Rattle.ada_tree.specs.contracts.word.Word as word_row
 use Rattle.ada_tree.specs.declared.word.Word.{Word}
-use Rattle.ada_tree.specs.Words.{reserved_words, note_words}
+use Rattle.ada_tree.specs.Words.{WordRow, reserved_words, note_words}
 use Rattle.ada_tree.specs.Texts.{begins, is_big, is_small, is_number, is_comment}
 use Rattle.ada_tree.specs.Tokens.{Lexeme, a_name, a_number, a_word, a_mark, Sign}
 use Rattle.ada_tree.specs.Items.{Item, put, put_small, glue, line_break, indent, outdent, note_on, note_off, comment_line}
@@ -15,8 +15,8 @@ use Rattle.lex_ada.specs.declared.token.Token.{Token}
 use Rattle.lex_ada.specs.Lexis.{goes_on, AreTokens}
 use Rattle.lex_ada.specs.Meanings.{meanings}
 
-abbrev pub is_word_of : List Word → Word → Bool
-is_word_of words w = list_any (λ other. sameb word_row.the_type other w) words
+abbrev pub is_word_of : List WordRow → Word → Bool
+is_word_of rows w = list_any (λ (row : WordRow). sameb word_row.the_type row.0 w) rows
 
 -- a token that there is, in annotation text or not
 abbrev pub is_fitting : Bool → Lexeme → Bool

@@ -6,12 +6,7 @@ ghost use Rattle.lex_ada.specs.Cutting.{name_length, number_length, word_kind, w
 
 use crate::token::TokenKind;
 use crate::words::{is_note_word, is_reserved};
-
-/// The longest identifier, in bytes.
-const MOST_BYTES: usize = 120;
-
-/// The longest number, in digits.
-const MOST_DIGITS: usize = 18;
+use ada_tree::{LONGEST_NAME, LONGEST_NUMBER};
 
 /// What stands at the front of a text.
 #[derive(Clone, Copy, Debug, PartialEq, Eq)]
@@ -106,12 +101,12 @@ fn name_length(bytes: &[u8]) -> Result<usize, usize>
     let mut after = false;
     for (i, byte) in bytes.iter().enumerate() {
         if *byte == b'_' {
-            if after || i >= MOST_BYTES - 1 {
+            if after || i >= LONGEST_NAME - 1 {
                 return Err(i);
             }
             after = true;
         } else if byte.is_ascii_alphanumeric() {
-            if i >= MOST_BYTES {
+            if i >= LONGEST_NAME {
                 return Err(i);
             }
             after = false;
@@ -137,12 +132,12 @@ fn number_length(bytes: &[u8]) -> Result<usize, usize>
     let mut digits = 0usize;
     for (i, byte) in bytes.iter().enumerate() {
         if *byte == b'_' {
-            if after || digits >= MOST_DIGITS {
+            if after || digits >= LONGEST_NUMBER {
                 return Err(i);
             }
             after = true;
         } else if byte.is_ascii_digit() {
-            if digits >= MOST_DIGITS {
+            if digits >= LONGEST_NUMBER {
                 return Err(i);
             }
             digits += 1;

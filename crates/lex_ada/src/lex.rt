@@ -5,7 +5,7 @@ ghost use Rattle.lex_ada.specs.declared.token.Token.{Token as AToken};
 ghost use Rattle.lex_ada.specs.Lexis.{AreTokens};
 ghost use Rattle.lex_ada.specs.Faults.{is_text_byte, code_at, fault_in, IsFault, Answers, Gives};
 
-use crate::scan::scan;
+use crate::scan::{Scanned, scan};
 use crate::token::Tokens;
 use base_kit::{Code, Fault, Place, Stop};
 use std::alloc::Global;
@@ -42,8 +42,8 @@ pub fn tokens(alloc: Global, bytes: &[u8]) -> Result<Tokens, Stop>
     ensures only_fault { (code : ACode) (line : ℕ) → IsFault bytes.now code line → Gives result (Err (fault_in code line)) }
 {
     match scan(alloc, bytes)? {
-        Ok(tokens) => Ok(tokens),
-        Err(refusal) => Err(Stop::Fault(Fault {
+        Scanned::Tokens(tokens) => Ok(tokens),
+        Scanned::Refused(refusal) => Err(Stop::Fault(Fault {
             code: code_at(bytes, refusal.at),
             place: Place::Line(0, refusal.line),
             count: 0,

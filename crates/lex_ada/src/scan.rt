@@ -2,6 +2,7 @@
 ghost use Rattle.std.specs.Prelude.{◌≡◌, ◌<◌, ◌≤◌, ◌+◌, ◌++◌, ◌^◌, length, false, List, Ok, IfOk, OnOk, Option};
 ghost use Rattle.std.specs.Option.{option_to_list};
 ghost use Rattle.lex_ada.specs.declared.token.Token.{Token as AToken};
+ghost use Rattle.lex_ada.specs.Scans.{outcome_of};
 ghost use Rattle.lex_ada.specs.Cutting.{scanned, size_of, token_of};
 
 use crate::cut::{Cut, cut_front};
@@ -14,6 +15,15 @@ use std::alloc::Global;
 pub struct Refusal {
     pub at: usize,
     pub line: u32,
+}
+
+/// What the scan of a text finds.
+#[derive(Drop)]
+pub enum Scanned {
+    /// All its tokens.
+    Tokens(Tokens),
+    /// The first byte that no token admits.
+    Refused(Refusal),
 }
 
 // The token that a cut is, if it is one: it begins at this byte, in this line.
@@ -44,9 +54,9 @@ fn add(tokens: &mut Vec<Token>, token: Option<Token>) -> Result<(), Memory>
 }
 
 /// Cuts token after token from the front.
-pub fn scan(alloc: Global, bytes: &[u8]) -> Result<Result<Tokens, Refusal>, Memory>
+pub fn scan(alloc: Global, bytes: &[u8]) -> Result<Scanned, Memory>
     requires { length bytes.now < 2 ^ 32 }
-    ensures { IfOk result (λ found. found ≡ scanned 0 false 0 1 bytes.now) }
+    ensures { IfOk result (λ scan. outcome_of scan ≡ scanned 0 false 0 1 bytes.now) }
 {
     let mut tokens = Vec::new(alloc);
     let mut rest = bytes;
@@ -56,7 +66,7 @@ pub fn scan(alloc: Global, bytes: &[u8]) -> Result<Result<Tokens, Refusal>, Memo
         let at = bytes.len() - rest.len();
         let cut = cut_front(rest, note);
         if let Cut::Bad(size) = cut {
-            return Ok(Err(Refusal {
+            return Ok(Scanned::Refused(Refusal {
                 at: at + size,
                 line: line as u32,
             }));
@@ -66,5 +76,5 @@ pub fn scan(alloc: Global, bytes: &[u8]) -> Result<Result<Tokens, Refusal>, Memo
         note = cut.note_after(note);
         rest = rest.split_at(cut.size()).1;
     }
-    Ok(Ok(Tokens::from(tokens)))
+    Ok(Scanned::Tokens(Tokens::from(tokens)))
 }

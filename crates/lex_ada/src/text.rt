@@ -2,7 +2,8 @@
 ghost use Rattle.std.specs.Prelude.{◌≡◌, ◌==◌, ◌++◌, ◌∷◌, [], map, filter, not, reverse, drop, nat_eq, codes, if◌then◌else◌, IfOk, OnOk};
 ghost use Rattle.std.specs.List.{starts_with};
 ghost use Rattle.std.specs.Char.{to_ascii_uppercase, to_ascii_lowercase};
-ghost use Rattle.ada_tree.specs.Words.{reserved_words, note_words, word_of, mark_of};
+ghost use Rattle.ada_tree.specs.declared.word.TheConstants.{WORDS};
+ghost use Rattle.ada_tree.specs.Words.{word_of, mark_of};
 ghost use Rattle.lex_ada.specs.Meanings.{bytes_of, name_text, number_text, without_zeros, without_blanks, comment_text, token_text, LiesIn};
 
 use crate::token::{Token, TokenKind};
@@ -41,7 +42,7 @@ impl Token {
     /// The word that a token of the kind `Word` is. It takes no memory.
     pub fn word(&self, source: &[u8]) -> Option<Word>
         requires { LiesIn self.now source.now }
-        ensures { result ≡ word_of (reserved_words ++ note_words) (map to_ascii_lowercase (bytes_of source.now self.now)) }
+        ensures { result ≡ word_of WORDS (map to_ascii_lowercase (bytes_of source.now self.now)) }
     {
         words::word(self.bytes(source))
     }

@@ -5,3 +5,4 @@ pub mod MemorySink
 pub mod Output
 pub mod Plan
 pub mod Statuses
+pub mod System

@@ -1,6 +1,7 @@
 //! The outside: where files come from and go to, where output goes, and how a run ends.
 #![tactic(auto)]
 
+mod ends;
 mod memory_shelf;
 mod memory_sink;
 mod shelf;
@@ -8,6 +9,7 @@ mod sink;
 mod status;
 mod system;
 
+pub use ends::{cause_of, read_front, write_front, write_whole};
 pub use memory_shelf::{Entry, MemShelf};
 pub use memory_sink::MemSink;
 pub use shelf::{Shelf, ShelfError};

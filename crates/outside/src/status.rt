@@ -2,7 +2,7 @@
 ghost use Rattle.std.specs.Prelude.{◌≡◌};
 ghost use Rattle.outside.specs.Statuses.{code_of};
 
-/// How a run of the program ends.
+/// How a run of the program ends: the statuses by their exit codes, from 0.
 #[derive(Clone, Copy, Debug, PartialEq, Eq)]
 pub enum Status {
     /// All was done.
@@ -28,15 +28,6 @@ impl Status {
     pub fn code(self) -> u8
         ensures { result ≡ code_of self }
     {
-        match self {
-            Status::Done => 0,
-            Status::SomeRefused => 1,
-            Status::Usage => 2,
-            Status::SourceFault => 3,
-            Status::ShelfFailed => 4,
-            Status::SinkFailed => 5,
-            Status::ScriptFault => 6,
-            Status::NoMemory => 7,
-        }
+        self as u8
     }
 }

@@ -1,6 +1,7 @@
 -- The bindings that the program keeps have the values of the symbolic store.
 use Rattle.std.proofs.Common.{◌≡◌, ◌<◌, ◌≤◌, ℕ, suc, List, [], ◌∷◌, length, map, get_or, ◌+◌, Bool, true, false, cond, refl, sym, ◌∙◌, ap, subst, arith}
-use Rattle.std.specs.Prelude.{not, ◌||◌, bytes_eq}
+use Rattle.std.specs.Prelude.{not, ◌||◌, bytes_eq, nat_lt, position, Some, None}
+use Rattle.std.proofs.lemmas.Bool.Decides.{nat_tests}
 use Rattle.std.proofs.Math.ListN.{set}
 use Rattle.std.specs.List.{list_all, prefix_len}
 use Rattle.std.proofs.lemmas.Bool.{and_parts}
@@ -66,7 +67,7 @@ set_place [] name value d lt = absurd (omega arith)
 set_place (b ∷ bs) name value d lt = set_first (bytes_eq b.object name) b bs name value d (place name bs) (λ e. set_place bs name value d (below_next (bytes_eq b.object name) (place name bs) (length bs) lt e))
 
 -- another value at the place of the name
-pub set-place : (bindings : List Binding) (name : List ℕ) (value : Term) (d : Binding) (n : ℕ) → n ≡ place name bindings → n < length bindings → set bindings n (record { object = (get_or bindings n d).object; value = value }) ≡ rebound name value bindings
+set-place : (bindings : List Binding) (name : List ℕ) (value : Term) (d : Binding) (n : ℕ) → n ≡ place name bindings → n < length bindings → set bindings n (record { object = (get_or bindings n d).object; value = value }) ≡ rebound name value bindings
 set-place bindings name value d n e lt =
     subst (λ (k : ℕ). set bindings k (record { object = (get_or bindings k d).object; value = value }) ≡ rebound name value bindings) (sym e)
     (set_place bindings name value d (subst (λ (k : ℕ). k < length bindings) e lt))
@@ -84,9 +85,28 @@ above_next true n size h = omega arith
 above_next false n size h = omega arith
 
 -- a name without a place
-pub no-place : (bindings : List Binding) (name : List ℕ) (value : Term) → length bindings ≤ place name bindings → bindings ≡ rebound name value bindings
+no-place : (bindings : List Binding) (name : List ℕ) (value : Term) → length bindings ≤ place name bindings → bindings ≡ rebound name value bindings
 no-place [] name value le = refl
 no-place (b ∷ bs) name value le = no_first (bytes_eq b.object name) b bs name value (not_first (bytes_eq b.object name) (place name bs) (length bs) le) (λ e. no-place bs name value (above_next (bytes_eq b.object name) (place name bs) (length bs) le))
+
+-- what a search for the place of a name says, where it found one and where not
+
+placed : (n size : ℕ) (t : Bool) → nat_lt n size ≡ t → (k : ℕ) → cond t (Some n) None ≡ Some k → (k ≡ n) × (k < size)
+placed n size true e k h = let same : k ≡ n = cc in (same, grind (arith, nat_tests, same))
+placed n size false e k h = absurd cc
+
+unplaced : (n size : ℕ) (t : Bool) → nat_lt n size ≡ t → cond t (Some n) None ≡ None → size ≤ n
+unplaced n size true e h = absurd cc
+unplaced n size false e h = grind (arith, nat_tests)
+
+pub set-position : (bindings : List Binding) (name : List ℕ) (value : Term) (d : Binding) (n : ℕ) → Some n ≡ position (λ binding. bytes_eq binding.object name) bindings
+    → set bindings n (record { object = (get_or bindings n d).object; value = value }) ≡ rebound name value bindings
+set-position bindings name value d n e =
+    let is = placed (place name bindings) (length bindings) (nat_lt (place name bindings) (length bindings)) refl n (sym e) in
+    set-place bindings name value d n is.0 is.1
+
+pub no-position : (bindings : List Binding) (name : List ℕ) (value : Term) → None ≡ position (λ binding. bytes_eq binding.object name) bindings → bindings ≡ rebound name value bindings
+no-position bindings name value e = no-place bindings name value (unplaced (place name bindings) (length bindings) (nat_lt (place name bindings) (length bindings)) refl (sym e))
 
 -- the objects keep their places
 objects_by : (t : Bool) (b : Binding) (bs : List Binding) (name : List ℕ) (value : Term) → objects (rebound name value bs) ≡ objects bs → objects (cond t (record b { value = value } ∷ bs) (b ∷ rebound name value bs)) ≡ b.object ∷ objects bs

@@ -1,10 +1,10 @@
 //! `penelope`: reads Ada units with annotations, and prints their proof obligations.
 #![tactic(auto)]
 
-ghost use Rattle.std.specs.Prelude.{◌≡◌, ◌<◌, map, string_bytes};
-ghost use Rattle.outside.specs.Statuses.{Ends};
-ghost use Rattle.outside.specs.Plan.{Ran};
-ghost use Rattle.penelope_cli.specs.Commands.{plan_of};
+ghost use Rattle.std.specs.Prelude.{◌≡◌, ◌<◌, map, string_bytes, IfOk, OnErr};
+ghost use Rattle.outside.specs.declared.status.Status.TheVariants.{NoMemory};
+ghost use Rattle.outside.specs.Statuses.{code_of};
+ghost use Rattle.penelope_cli.specs.Promises.{Run, Keeps};
 
 mod check;
 mod obligations;
@@ -26,22 +26,37 @@ use std::rt::Env;
 use std::sync::ledger::{Blank, Ledger};
 pub use top::penelope;
 
-// The program with a ledger of its own, over any shelf and any sink.
+// The program with a ledger of its own, over any shelf and any sink. Without memory for the words it
+// does nothing.
 fn run<S: Shelf, K: Sink, P: Ledger>(
     alloc: Global,
     blank: Blank,
-    words: &[String],
+    words: Result<Vec<String>, Memory>,
     shelf: &mut S,
     out: &mut K,
 ) -> u8
     requires name { blank.name ≡ P.name }
     requires parts { blank.parts ≡ P.parts }
     requires some { 0 < blank.parts }
-    ensures { Ends result (λ status.
-        Ran (plan_of (map string_bytes words.now)) status (S.state shelf.old) (S.state shelf.new) (K.state out.old) (K.state out.new)) }
+    ensures words { IfOk words (λ given. Keeps record {
+      words = map string_bytes given.items;
+      code = result;
+      shelf = S.state shelf.old;
+      shelf_after = S.state shelf.new;
+      sink = K.state out.old;
+      sink_after = K.state out.new;
+    }) }
+    ensures no_words { OnErr words (result ≡ code_of NoMemory) }
+    ensures no_shelf { OnErr words (S.state shelf.new ≡ S.state shelf.old) }
+    ensures no_sink { OnErr words (K.state out.new ≡ K.state out.old) }
 {
-    let mut steps = Steps::new(Tally::<P>::new(blank));
-    penelope(alloc, words, shelf, out, &mut steps)
+    match words {
+        Ok(words) => {
+            let mut steps = Steps::new(Tally::<P>::new(blank));
+            penelope(alloc, words.as_slice(), shelf, out, &mut steps)
+        }
+        Err(_) => Status::NoMemory.code(),
+    }
 }
 
 // The words after the program's name; none where they can't be had.
@@ -54,18 +69,11 @@ fn words_of(rt: &(impl Env + Alloc<A = Global>)) -> Result<Vec<String>, Memory> 
 }
 
 fn main(rt: HostRuntime) -> ExitCode {
-    match words_of(&rt) {
-        Ok(words) => ExitCode::from(run::<
-            FileShelf<'_, HostRuntime>,
-            StdSink<'_, HostRuntime>,
-            Brand,
-        >(
-            rt.alloc(),
-            Blank::new(1),
-            words.as_slice(),
-            &mut FileShelf::new(&rt),
-            &mut StdSink::new(&rt),
-        )),
-        Err(_) => ExitCode::from(Status::NoMemory.code()),
-    }
+    ExitCode::from(run::<FileShelf<'_, HostRuntime>, StdSink<'_, HostRuntime>, Brand>(
+        rt.alloc(),
+        Blank::new(1),
+        words_of(&rt),
+        &mut FileShelf::new(&rt),
+        &mut StdSink::new(&rt),
+    ))
 }

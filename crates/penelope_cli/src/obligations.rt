@@ -1,7 +1,6 @@
 // The proof obligations of a procedure.
-ghost use Rattle.std.specs.Prelude.{◌≡◌, ◌∷◌, [], not, length, bytes_eq, map, List, Some, IfOk, OnOk};
+ghost use Rattle.std.specs.Prelude.{◌≡◌, ◌∷◌, [], length, bytes_eq, position, map, List, Some, IfOk, OnOk};
 ghost use Rattle.term_core.specs.declared.term.Term.{Term as LogicTerm};
-ghost use Rattle.std.specs.List.{prefix_len};
 ghost use Rattle.term_core.specs.Terms.{int, var, op};
 ghost use Rattle.ada_read.specs.Conditions.{Meets};
 ghost use Rattle.penelope_cli.specs.Paths.{entry_store, value_of, after_all, hypotheses_of, conclusions_of, conjunction, variable_of, obligations_of};
@@ -85,24 +84,20 @@ fn bound_operand(alloc: Global, bindings: &[Binding], operand: &Operand) -> Resu
     }
 }
 
-// The place of an object, or the number of places where it has none.
-fn place_of(bindings: &[Binding], name: &[u8]) -> usize
-    ensures { result ≡ prefix_len (λ binding. not (bytes_eq binding.object name.now)) bindings.now }
+// The place of an object.
+fn place_of(bindings: &[Binding], name: &[u8]) -> Option<usize>
+    ensures { result ≡ position (λ binding. bytes_eq binding.object name.now) bindings.now }
 {
-    for (i, binding) in bindings.iter().enumerate() {
-        if binding.object.as_bytes() == name {
-            return i;
-        }
-    }
-    bindings.len()
+    bindings
+        .iter()
+        .position(|binding| binding.object.as_bytes() == name)
 }
 
 // Gives an object another value.
 fn rebind(bindings: &mut [Binding], name: &[u8], value: Term)
     ensures { bindings.new ≡ rebound name.now value bindings.old }
 {
-    let place = place_of(bindings, name);
-    if place < bindings.len() {
+    if let Some(place) = place_of(bindings, name) {
         bindings[place].value = value;
     }
 }

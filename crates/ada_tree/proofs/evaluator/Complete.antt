@@ -193,7 +193,7 @@ arguments_complete (a ∷ others) (some_complete {w = w} {ws = ws} s all) note e
     (sequence_leaves (s.node note place events middle d) (arguments_complete others all note middle rest ds))))
 arguments_complete (a ∷ []) (some_complete {w = w} s no_complete) note events rest (in_number {events = others} q d) =
     right_leaves (with_first (w ∷ []) (first_ways argument.InNumber [] note))
-    (guard_leaves (silent w) (sym (silent_same s.sound) ∙ q) (sequence_leaves (token_leaves note (a_word word.In) others) (s.node note choice.Number others rest d)))
+    (guard_leaves (silent w) (sym (silent_same s.sound) ∙ q) (sequence_leaves (token_leaves note (a_word word.In) others) (s.node note (choice.Only kind.Int) others rest d)))
 arguments_complete (a ∷ []) no_complete note events rest no_in_number = right_leaves (with_first [] (first_ways argument.InNumber [] note)) (nothing_leaves rest)
 arguments_complete (a ∷ []) {ws = ws} all note events rest (a_list {place = place} {events = others} p d) =
     right_leaves (with_first ws (first_ways a [] note)) (last_leaves a place ws note events rest p (list_argument_leaves all note place others rest d))

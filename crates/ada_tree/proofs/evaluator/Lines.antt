@@ -98,7 +98,7 @@ with_first (w ∷ ws) way events = way w ws events
 
 abbrev pub in_number_ways : List Ways → Bool → Way
 in_number_ways [] note events = events ∷ []
-in_number_ways (w ∷ []) note events = guarded (silent w) (sequence (takes_token note (a_word word.In)) (w.node note choice.Number)) events
+in_number_ways (w ∷ []) note events = guarded (silent w) (sequence (takes_token note (a_word word.In)) (w.node note (choice.Only kind.Int))) events
 in_number_ways (w ∷ other ∷ ws) note events = []
 
 abbrev pub list_argument_ways : List Ways → Bool → Choice → Way

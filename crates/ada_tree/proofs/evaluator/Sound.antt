@@ -148,7 +148,7 @@ first_gives R (some_ways {w = w} {n = n} {ws = ws} {ns = ns} s all) g = g w ws n
 in_number_sound : {ws : List Ways} {ns : List Node} → AllSound ws ns → (note : Bool) → Gives (in_number_ways ws note) (SpellsArguments note (argument.InNumber ∷ []) ns)
 in_number_sound no_ways note = nothing_gives (λ events. no_in_number)
 in_number_sound (some_ways {w = w} s no_ways) note =
-    guarded_gives (silent w) (λ q. after_token note (a_word word.In) (s.node note choice.Number) (λ events rest d. in_number (silent_same s ∙ q) d))
+    guarded_gives (silent w) (λ q. after_token note (a_word word.In) (s.node note (choice.Only kind.Int)) (λ events rest d. in_number (silent_same s ∙ q) d))
 in_number_sound (some_ways s (some_ways r all)) note = fails_gives
 
 list_argument_sound : (a : Argument) (place : Choice) → listed_place a ≡ Some place → {ws : List Ways} {ns : List Node} → AllSound ws ns → (note : Bool)

@@ -12,7 +12,8 @@ use Rattle.ada_tree.specs.Tokens.{Lexeme, Sign, token, comment, Event, spelled, 
 use Rattle.ada_tree.specs.Choices.{comments_of}
 use Rattle.ada_tree.specs.Texts.{is_comment}
 use Rattle.ada_tree.specs.Spelling.{keeps_comments, SpellsNode}
-use Rattle.ada_tree.specs.Reading.{Attached, dropped, waits, taken, passed, most_nested, most_steps, most_open, open_in, IsNested, takes_comments, IsReading}
+use Rattle.ada_tree.specs.declared.limits.TheConstants.{MOST_NESTED, MOST_NESTED_STEPS, MOST_OPEN}
+use Rattle.ada_tree.specs.Reading.{Attached, dropped, waits, taken, passed, open_in, IsNested, takes_comments, IsReading}
 use Rattle.ada_tree.specs.Fits.{Fits}
 use Rattle.ada_tree.proofs.Trees.{Tree, tree, grown, all_grown, folded, fold_grown, tree_notes}
 use Rattle.ada_tree.proofs.evaluator.Ways.{same_texts, same_texts_are, is_token, token_is, every_empty}
@@ -81,14 +82,14 @@ abbrev pub nesting : (Kind → Bool) → Tree → ℕ
 nesting test t = folded ℕ (λ layer. (if test layer.kind then 1 else 0) + greatest layer.kids) t
 
 abbrev pub is_within_limits : Tree → Bool
-is_within_limits t = nat_le (nesting is_nested t) most_nested && nat_le (nesting is_step t) most_steps
+is_within_limits t = nat_le (nesting is_nested t) MOST_NESTED && nat_le (nesting is_step t) MOST_NESTED_STEPS
 
 nested_of : (t : Tree) → is_within_limits t ≡ true → IsNested (grown t)
 nested_of t h =
-    let p = and_parts (nat_le (nesting is_nested t) most_nested) (nat_le (nesting is_step t) most_steps) h in
+    let p = and_parts (nat_le (nesting is_nested t) MOST_NESTED) (nat_le (nesting is_step t) MOST_NESTED_STEPS) h in
     record {
-      nodes = subst (λ (n : ℕ). n ≤ most_nested) (sym (same is_nested)) (leb-true (nesting is_nested t) most_nested p.0);
-      steps = subst (λ (n : ℕ). n ≤ most_steps) (sym (same is_step)) (leb-true (nesting is_step t) most_steps p.1);
+      nodes = subst (λ (n : ℕ). n ≤ MOST_NESTED) (sym (same is_nested)) (leb-true (nesting is_nested t) MOST_NESTED p.0);
+      steps = subst (λ (n : ℕ). n ≤ MOST_NESTED_STEPS) (sym (same is_step)) (leb-true (nesting is_step t) MOST_NESTED_STEPS p.1);
     }
   where
     same : (test : Kind → Bool) → nesting_of test (grown t) ≡ nesting test t
@@ -106,21 +107,23 @@ abbrev pub tree_comments_fit : Choice → Tree → Bool
 tree_comments_fit place t = if takes_comments place then list_all is_comment (tree_notes t) else keeps_comments (comments_of place) || is_empty (tree_notes t)
 
 abbrev pub is_read : Bool → Choice → List Event → List Sign → Tree → Bool
-is_read note place events signs t = is_spelled note place t events && (tree_comments_fit place t && (is_attached [] (tree_standing place t events) signs && (is_within_limits t && nat_le (open_in 0 signs) most_open)))
+is_read note place events signs t = is_spelled note place t events && (tree_comments_fit place t && (is_attached [] (tree_standing place t events) signs && (is_within_limits t && nat_le (open_in 0 signs) MOST_OPEN)))
 
 pub reads_grown : (note : Bool) (place : Choice) (events : List Event) (signs : List Sign) (t : Tree) → is_read note place events signs t ≡ true → IsReading note place signs (grown t)
 reads_grown note place events signs t h =
-    let p = and_parts (is_spelled note place t events) (tree_comments_fit place t && (is_attached [] (tree_standing place t events) signs && (is_within_limits t && nat_le (open_in 0 signs) most_open))) h in
-    let o = and_parts (tree_comments_fit place t) (is_attached [] (tree_standing place t events) signs && (is_within_limits t && nat_le (open_in 0 signs) most_open)) p.1 in
-    let q = and_parts (is_attached [] (tree_standing place t events) signs) (is_within_limits t && nat_le (open_in 0 signs) most_open) o.1 in
-    let r = and_parts (is_within_limits t) (nat_le (open_in 0 signs) most_open) q.1 in
+    let p = and_parts (is_spelled note place t events) (tree_comments_fit place t && (is_attached [] (tree_standing place t events) signs && (is_within_limits t && nat_le (open_in 0 signs) MOST_OPEN))) h in
+    let o = and_parts (tree_comments_fit place t) (is_attached [] (tree_standing place t events) signs && (is_within_limits t && nat_le (open_in 0 signs) MOST_OPEN)) p.1 in
+    let q = and_parts (is_attached [] (tree_standing place t events) signs) (is_within_limits t && nat_le (open_in 0 signs) MOST_OPEN) o.1 in
+    let r = and_parts (is_within_limits t) (nat_le (open_in 0 signs) MOST_OPEN) q.1 in
     record {
-      events = events;
-      spelling = spells_grown note place t events p.0;
-      fitting = ap (λ (notes : List (List ℕ)). if takes_comments place then list_all is_comment notes else keeps_comments (comments_of place) || is_empty notes) (notes_grown t) ∙ o.0;
-      attached = subst (λ (notes : List (List ℕ)). Attached [] (if takes_comments place then comments notes ∷ events else events) signs) (sym (notes_grown t)) (attached_of [] (tree_standing place t events) signs q.0);
+      reading = record {
+        events = events;
+        spelling = spells_grown note place t events p.0;
+        fitting = ap (λ (notes : List (List ℕ)). if takes_comments place then list_all is_comment notes else keeps_comments (comments_of place) || is_empty notes) (notes_grown t) ∙ o.0;
+        attached = subst (λ (notes : List (List ℕ)). Attached [] (if takes_comments place then comments notes ∷ events else events) signs) (sym (notes_grown t)) (attached_of [] (tree_standing place t events) signs q.0);
+      };
       nested = nested_of t r.0;
-      opened = leb-true (open_in 0 signs) most_open r.1;
+      opened = leb-true (open_in 0 signs) MOST_OPEN r.1;
     }
 
 abbrev pub fits : List Event → Tree → Bool

@@ -12,7 +12,7 @@ abbrev expression : Tree → List ℕ
 expression t = render start (tree_items (One choice.Expr) t)
 
 abbrev term : Tree → List ℕ
-term t = render start (tree_items (One choice.Term) t)
+term t = render start (tree_items (One choice.Expr) t)
 
 -- an operand that has operands of its own stands in parentheses, whatever the levels
 sum_of_product : expression (binary (codes "+") (name (codes "A")) (binary (codes "*") (name (codes "B")) (name (codes "C")))) ≡ codes "A + (B * C)\n"

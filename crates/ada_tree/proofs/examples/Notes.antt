@@ -3,7 +3,20 @@ use Rattle.std.proofs.Common.{◌≡◌, refl, ◌∙◌}
 use Rattle.std.specs.Prelude.{codes}
 use Rattle.ada_tree.specs.declared.kind.Kind.TheVariants as kind
 use Rattle.ada_tree.specs.Rendering.{text}
-use Rattle.ada_tree.proofs.Trees.{Tree, no_trees, ◌&◌, grown, text_grown, doc, texted, plain, leaf, none, list, id, name, int, binary, unary, apply}
+use Rattle.ada_tree.proofs.Trees.{Tree, no_trees, ◌&◌, grown, text_grown, doc, texted, plain, leaf, none, list, id, name, int, binary, unary, apply, unit}
+
+-- each clause of a where block
+abbrev pub clauses : Tree
+clauses = unit (plain kind.SubDecl (texted kind.Proc (codes "P") (none & no_trees) & plain kind.Where (list (
+    texted kind.Global (codes "in out") (list (texted kind.Select (codes "N") (name (codes "Q") & no_trees) & name (codes "M") & no_trees) & no_trees)
+    & texted kind.Global (codes "in") (list (name (codes "K") & no_trees) & no_trees)
+    & plain kind.In (name (codes "B") & no_trees)
+    & plain kind.Out (name (codes "C") & no_trees)
+    & plain kind.RaiseC (name (codes "E") & name (codes "D") & no_trees)
+    & no_trees) & no_trees) & no_trees))
+
+clauses-text : text (grown (doc (clauses & no_trees))) 0 ≡ codes "procedure P;\n--| where\n--|    global in out Q.N, M;\n--|    global in K;\n--|    in B;\n--|    out C;\n--|    raise E => D;\n--| end where;\n"
+clauses-text = text_grown (clauses & no_trees) ∙ refl
 
 -- a trait with all its parts
 abbrev pub lists : Tree

@@ -116,12 +116,12 @@ abbrev implied_right : Tree
 implied_right = binary (codes "implies") name_a (binary (codes "implies") name_b name_c)
 
 -- A implies B implies C: associates to the right
-implies_to_the_right : SpellsNode true choice.Term (grown implied_right) a_implies_b_implies_c []
-implies_to_the_right = spells_grown true choice.Term implied_right a_implies_b_implies_c refl
+implies_to_the_right : SpellsNode true choice.Expr (grown implied_right) a_implies_b_implies_c []
+implies_to_the_right = spells_grown true choice.Expr implied_right a_implies_b_implies_c refl
 
 -- ... and not to the left
-implies_not_to_the_left : SpellsNode true choice.Term (grown (binary (codes "implies") (binary (codes "implies") name_a name_b) name_c)) a_implies_b_implies_c [] → ⊥
-implies_not_to_the_left = refused true choice.Term (binary (codes "implies") (binary (codes "implies") name_a name_b) name_c) a_implies_b_implies_c refl
+implies_not_to_the_left : SpellsNode true choice.Expr (grown (binary (codes "implies") (binary (codes "implies") name_a name_b) name_c)) a_implies_b_implies_c [] → ⊥
+implies_not_to_the_left = refused true choice.Expr (binary (codes "implies") (binary (codes "implies") name_a name_b) name_c) a_implies_b_implies_c refl
 
 -- ---- what may be left out
 
@@ -221,8 +221,8 @@ abbrev joined_lexemes : List Lexeme
 joined_lexemes = X ∷ a_mark mark.AtSign ∷ a_name (codes "LOOP1") ∷ []
 
 -- X @ loop1: a name of annotations
-joined_in_annotation : SpellsNode true choice.Term (grown joined_name) (noted joined_lexemes) []
-joined_in_annotation = spells_grown true choice.Term joined_name (noted joined_lexemes) refl
+joined_in_annotation : SpellsNode true choice.Expr (grown joined_name) (noted joined_lexemes) []
+joined_in_annotation = spells_grown true choice.Expr joined_name (noted joined_lexemes) refl
 
 -- ... and not of Ada text
 joined_in_ada : SpellsNode false choice.Expr (grown joined_name) (ada joined_lexemes) [] → ⊥
@@ -232,19 +232,19 @@ abbrev stored : Tree
 stored = texted kind.Make (codes "store") (list (name_a & name (codes "I") & name (codes "X") & no_trees) & no_trees)
 
 -- store (A, I, X)
-store_spelled : SpellsNode true choice.Term (grown stored) (noted (a_word word.Store ∷ opened ∷ A ∷ comma ∷ a_name (codes "I") ∷ comma ∷ X ∷ closed ∷ [])) []
-store_spelled = spells_grown true choice.Term stored (noted (a_word word.Store ∷ opened ∷ A ∷ comma ∷ a_name (codes "I") ∷ comma ∷ X ∷ closed ∷ [])) refl
+store_spelled : SpellsNode true choice.Expr (grown stored) (noted (a_word word.Store ∷ opened ∷ A ∷ comma ∷ a_name (codes "I") ∷ comma ∷ X ∷ closed ∷ [])) []
+store_spelled = spells_grown true choice.Expr stored (noted (a_word word.Store ∷ opened ∷ A ∷ comma ∷ a_name (codes "I") ∷ comma ∷ X ∷ closed ∷ [])) refl
 
 abbrev indexed_old : Tree
 indexed_old = plain kind.Apply (old (codes "A") & list (name (codes "I") & no_trees) & no_trees)
 
 -- (in A)(I): the value at entry is a prefix in parentheses
-old_is_prefix : SpellsNode true choice.Term (grown indexed_old) (noted (opened ∷ a_word word.In ∷ A ∷ closed ∷ opened ∷ a_name (codes "I") ∷ closed ∷ [])) []
-old_is_prefix = spells_grown true choice.Term indexed_old (noted (opened ∷ a_word word.In ∷ A ∷ closed ∷ opened ∷ a_name (codes "I") ∷ closed ∷ [])) refl
+old_is_prefix : SpellsNode true choice.Expr (grown indexed_old) (noted (opened ∷ a_word word.In ∷ A ∷ closed ∷ opened ∷ a_name (codes "I") ∷ closed ∷ [])) []
+old_is_prefix = spells_grown true choice.Expr indexed_old (noted (opened ∷ a_word word.In ∷ A ∷ closed ∷ opened ∷ a_name (codes "I") ∷ closed ∷ [])) refl
 
 -- in A(I): and without them it isn't
-old_is_no_bare_prefix : SpellsNode true choice.Term (grown indexed_old) (noted (a_word word.In ∷ A ∷ opened ∷ a_name (codes "I") ∷ closed ∷ [])) [] → ⊥
-old_is_no_bare_prefix = refused true choice.Term indexed_old (noted (a_word word.In ∷ A ∷ opened ∷ a_name (codes "I") ∷ closed ∷ [])) refl
+old_is_no_bare_prefix : SpellsNode true choice.Expr (grown indexed_old) (noted (a_word word.In ∷ A ∷ opened ∷ a_name (codes "I") ∷ closed ∷ [])) [] → ⊥
+old_is_no_bare_prefix = refused true choice.Expr indexed_old (noted (a_word word.In ∷ A ∷ opened ∷ a_name (codes "I") ∷ closed ∷ [])) refl
 
 -- ---- steps of proofs
 

@@ -62,15 +62,15 @@ hidden_items count pieces node kids e =
 
 pub argument_items : (a : Argument) (others : List Argument) (place : Choice) (node : Node) (nodes : List Node) → argument_place a ≡ Some place
     → arguments (a ∷ others) (all_written (node ∷ nodes)) ≡ node_items place node ++ arguments others (all_written nodes)
-argument_items argument.Number others place node nodes h = let e : choice.Number ≡ place = cc in ap (λ p. node_items p node ++ arguments others (all_written nodes)) e
+argument_items argument.Number others place node nodes h = let e : (choice.Only kind.Int) ≡ place = cc in ap (λ p. node_items p node ++ arguments others (all_written nodes)) e
 argument_items argument.Name others place node nodes h = let e : choice.Only kind.Name ≡ place = cc in ap (λ p. node_items p node ++ arguments others (all_written nodes)) e
 argument_items argument.LemmaName others place node nodes h = let e : choice.LemmaName ≡ place = cc in ap (λ p. node_items p node ++ arguments others (all_written nodes)) e
-argument_items argument.Term others place node nodes h = let e : choice.Term ≡ place = cc in ap (λ p. node_items p node ++ arguments others (all_written nodes)) e
+argument_items argument.Term others place node nodes h = let e : choice.Expr ≡ place = cc in ap (λ p. node_items p node ++ arguments others (all_written nodes)) e
 argument_items _ others place node nodes h = absurd cc
 
 pub list_items : (a : Argument) (place : Choice) (ks : List Written) → listed_place a ≡ Some place → arguments (a ∷ []) ks ≡ argument_list place ks
 list_items argument.Names place ks h = let e : choice.Only kind.Name ≡ place = cc in ap (λ p. argument_list p ks) e
-list_items argument.Terms place ks h = let e : choice.Term ≡ place = cc in ap (λ p. argument_list p ks) e
+list_items argument.Terms place ks h = let e : choice.Expr ≡ place = cc in ap (λ p. argument_list p ks) e
 list_items argument.Coefficients place ks h = let e : choice.Coefficient ≡ place = cc in ap (λ p. argument_list p ks) e
 list_items _ place ks h = absurd cc
 

@@ -1,5 +1,5 @@
 -- What the round trip asks of the lines of the grammar, tested on each of them.
-use Rattle.std.proofs.Common.{◌≡◌, ℕ, suc, zero, List, [], ◌∷◌, refl, Bool, true, false, not, ◌&&◌, ◌||◌, Option, Some, None, if◌then◌else◌}
+use Rattle.std.proofs.Common.{◌≡◌, ℕ, suc, zero, List, [], ◌∷◌, refl, Bool, true, false, not, ◌&&◌, ◌||◌, if◌then◌else◌}
 use Rattle.std.proofs.lemmas.Bool.{not-true}
 use Rattle.ada_tree.specs.declared.kind.Kind.{Kind}
 use Rattle.ada_tree.specs.declared.kind.Kind.TheVariants as kind
@@ -11,12 +11,10 @@ use Rattle.ada_tree.specs.declared.grammar.Shape.{Shape}
 use Rattle.ada_tree.specs.declared.grammar.Shape.TheVariants.{One, Any, Many, Listed, MaybeListed, ForAll}
 use Rattle.ada_tree.specs.declared.grammar.Piece.{Piece}
 use Rattle.ada_tree.specs.declared.grammar.Piece.TheVariants.{Word, Mark, Own, Kid, Members, Arguments, Option as Optional, Shown, End, Indent, Outdent, Glue, NoteOn, NoteOff}
-use Rattle.ada_tree.specs.declared.operator.Operator.{Operator}
-use Rattle.ada_tree.specs.declared.operator.Operator.TheVariants as op
-use Rattle.ada_tree.specs.Operators.{operator_of}
 use Rattle.ada_tree.specs.Choices.{comments_of}
-use Rattle.ada_tree.specs.Lines.{line, operator_line, unary_line}
+use Rattle.ada_tree.specs.Lines.{line, line_by_operator, unary_line}
 use Rattle.ada_tree.specs.Spelling.{after_end, starts_with_comments, ends_with_comments, keeps_comments}
+use Rattle.ada_tree.proofs.Found.{line_holds}
 use Rattle.ada_tree.proofs.round_trip.Places.{both, is_open_kind, is_open, is_plain_kind, is_plain, is_sure_kind, is_sure, is_improper_kind, is_proper}
 
 abbrev implies : Bool → Bool → Bool
@@ -184,18 +182,14 @@ sound_skipped outer fine now (_ ∷ pieces) = sound_skipped outer fine now piece
 
 -- ---- the written table
 
-sound_operator : (note : Bool) (o : Option Operator) → is_sound_line note false false note (operator_line o) ≡ true
-sound_operator true None = refl
-sound_operator false None = refl
-sound_operator true (Some op.And) = refl
-sound_operator true (Some _) = refl
-sound_operator false (Some op.And) = refl
-sound_operator false (Some _) = refl
+sound_operator : (note : Bool) (k : Kind) (text : List ℕ) → is_sound_line note false false note (line_by_operator k text) ≡ true
+sound_operator true k text = line_holds (is_sound_line true false false true) refl refl k text
+sound_operator false k text = line_holds (is_sound_line false false false false) refl refl k text
 
 sound_unary : (note : Bool) (place : Choice) (text : List ℕ) → is_sound_line note false false note (unary_line place text) ≡ true
 sound_unary true choice.Coefficient text = refl
 sound_unary false choice.Coefficient text = refl
-sound_unary note _ text = sound_operator note (operator_of kind.Unary text)
+sound_unary note _ text = sound_operator note kind.Unary text
 
 sound_select : (note : Bool) (place : Choice) (text : List ℕ) → is_sound_line note false false note (line place kind.Select text) ≡ true
 sound_select true choice.Mark text = refl
@@ -209,22 +203,20 @@ sound_select false _ text = refl
 
 pub sound_line : (note : Bool) (place : Choice) (k : Kind) (text : List ℕ) → is_improper_kind k ≡ false → is_sound_line note (is_open_kind k) false note (line place k text) ≡ true
 sound_line note place kind.Doc text h = absurd cc
-sound_line note place kind.Binary text h = sound_operator note (operator_of kind.Binary text)
+sound_line note place kind.Binary text h = sound_operator note kind.Binary text
 sound_line note place kind.Unary text h = sound_unary note place text
-sound_line note place kind.Member text h = sound_operator note (operator_of kind.Member text)
-sound_line note place kind.Make text h = sound_operator note (operator_of kind.Make text)
+sound_line note place kind.Member text h = sound_operator note kind.Member text
+sound_line note place kind.Make text h = sound_operator note kind.Make text
 sound_line note place kind.Select text h = sound_select note place text
 sound_line true place _ text h = refl
 sound_line false place _ text h = refl
 
-plain_operator : (o : Option Operator) → is_plain_line true false (operator_line o) ≡ true
-plain_operator None = refl
-plain_operator (Some op.And) = refl
-plain_operator (Some _) = refl
+plain_operator : (k : Kind) (text : List ℕ) → is_plain_line true false (line_by_operator k text) ≡ true
+plain_operator k text = line_holds (is_plain_line true false) refl refl k text
 
 plain_unary : (place : Choice) (text : List ℕ) → is_plain_line true false (unary_line place text) ≡ true
 plain_unary choice.Coefficient text = refl
-plain_unary _ text = plain_operator (operator_of kind.Unary text)
+plain_unary _ text = plain_operator kind.Unary text
 
 plain_select : (place : Choice) (text : List ℕ) → is_plain_line true false (line place kind.Select text) ≡ true
 plain_select choice.Mark text = refl
@@ -233,10 +225,10 @@ plain_select choice.LemmaName text = refl
 plain_select _ text = refl
 
 pub plain_line : (place : Choice) (k : Kind) (text : List ℕ) → is_plain_kind k ≡ true → is_plain_line true false (line place k text) ≡ true
-plain_line place kind.Binary text h = plain_operator (operator_of kind.Binary text)
+plain_line place kind.Binary text h = plain_operator kind.Binary text
 plain_line place kind.Unary text h = plain_unary place text
-plain_line place kind.Member text h = plain_operator (operator_of kind.Member text)
-plain_line place kind.Make text h = plain_operator (operator_of kind.Make text)
+plain_line place kind.Member text h = plain_operator kind.Member text
+plain_line place kind.Make text h = plain_operator kind.Make text
 plain_line place kind.Select text h = plain_select place text
 plain_line place kind.Doc text h = absurd cc
 plain_line place kind.File text h = absurd cc

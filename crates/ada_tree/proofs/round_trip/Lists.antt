@@ -158,10 +158,10 @@ pub no_arguments : (note : Bool) → AreArgumentsWritten note [] []
 no_arguments note = record { events = λ rest. rest; spelling = λ rest. Spelling.no_more; attached = λ rest items a. a }
 
 argument_sound : (a : Argument) (place : Choice) → argument_place a ≡ Some place → is_proper place && not (is_open place) ≡ true
-argument_sound argument.Number place h = let e : choice.Number ≡ place = cc in subst (λ p. is_proper p && not (is_open p) ≡ true) e refl
+argument_sound argument.Number place h = let e : (choice.Only kind.Int) ≡ place = cc in subst (λ p. is_proper p && not (is_open p) ≡ true) e refl
 argument_sound argument.Name place h = let e : choice.Only kind.Name ≡ place = cc in subst (λ p. is_proper p && not (is_open p) ≡ true) e refl
 argument_sound argument.LemmaName place h = let e : choice.LemmaName ≡ place = cc in subst (λ p. is_proper p && not (is_open p) ≡ true) e refl
-argument_sound argument.Term place h = let e : choice.Term ≡ place = cc in subst (λ p. is_proper p && not (is_open p) ≡ true) e refl
+argument_sound argument.Term place h = let e : choice.Expr ≡ place = cc in subst (λ p. is_proper p && not (is_open p) ≡ true) e refl
 argument_sound _ place h = absurd cc
 
 pub one_argument : {note : Bool} {a : Argument} {others : List Argument} {place : Choice} {node : Node} {nodes : List Node} → argument_place a ≡ Some place → is_silent node ≡ true
@@ -175,11 +175,11 @@ one_argument {note = note} {a = a} {others = others} {place = place} {node = nod
       (one.attached (more.events rest) _ sound.0 (never (is_open place) _ sound.1) (more.attached rest items at));
 }
 
-pub number_after_in : {note : Bool} {node : Node} → is_silent node ≡ true → IsNodeWritten note choice.Number node → AreArgumentsWritten note (argument.InNumber ∷ []) (node ∷ [])
+pub number_after_in : {note : Bool} {node : Node} → is_silent node ≡ true → IsNodeWritten note (choice.Only kind.Int) node → AreArgumentsWritten note (argument.InNumber ∷ []) (node ∷ [])
 number_after_in {note = note} {node = node} s one = record {
   events = λ rest. spelled note (a_word word.In) ∷ one.events rest;
   spelling = λ rest. Spelling.in_number s (one.spelling rest);
-  attached = λ rest items a. passed (rw (append_assoc (node_items choice.Number node) [] items) (one.attached rest items refl (λ o. absurd cc) a));
+  attached = λ rest items a. passed (rw (append_assoc (node_items (choice.Only kind.Int) node) [] items) (one.attached rest items refl (λ o. absurd cc) a));
 }
 
 pub no_number_after_in : (note : Bool) → AreArgumentsWritten note (argument.InNumber ∷ []) []
@@ -187,7 +187,7 @@ no_number_after_in note = record { events = λ rest. rest; spelling = λ rest. S
 
 list_sound : (a : Argument) (place : Choice) → listed_place a ≡ Some place → is_proper place && not (is_open place) ≡ true
 list_sound argument.Names place h = let e : choice.Only kind.Name ≡ place = cc in subst (λ p. is_proper p && not (is_open p) ≡ true) e refl
-list_sound argument.Terms place h = let e : choice.Term ≡ place = cc in subst (λ p. is_proper p && not (is_open p) ≡ true) e refl
+list_sound argument.Terms place h = let e : choice.Expr ≡ place = cc in subst (λ p. is_proper p && not (is_open p) ≡ true) e refl
 list_sound argument.Coefficients place h = let e : choice.Coefficient ≡ place = cc in subst (λ p. is_proper p && not (is_open p) ≡ true) e refl
 list_sound _ place h = absurd cc
 

@@ -13,7 +13,8 @@ use Rattle.ada_tree.specs.declared.node.Node.{Node}
 use Rattle.ada_tree.specs.Nodes.{nesting_of, is_nested}
 use Rattle.ada_tree.specs.Tokens.{Event}
 use Rattle.ada_tree.specs.Items.{Item, signs}
-use Rattle.ada_tree.specs.Reading.{most_nested, most_open, open_in}
+use Rattle.ada_tree.specs.declared.limits.TheConstants.{MOST_NESTED, MOST_OPEN}
+use Rattle.ada_tree.specs.Reading.{open_in}
 use Rattle.ada_tree.specs.Spelling.{SpellsNode, SpellsKid, SpellsMembers, SpellsListed, SpellsLine, SpellsArguments, by_line, in_parentheses, one, any, many, listed, some_listed, none_listed, some_variables, no_variables, end_with_comments, end_without, member_with_comments, member_without, last, and_more, done, its_word, its_mark, its_text, omitted, its_kid, its_members, its_arguments, given, left_out, shown, hidden, laid_out, note_begins, note_ends, no_more, an_argument, in_number, no_in_number, a_list, no_list}
 use Rattle.ada_tree.specs.Canonical.{items_of}
 use Rattle.ada_tree.proofs.round_trip.Written.{node_items, as_it_is}
@@ -81,5 +82,5 @@ opened_at {note = note} {place = place} {node = node} bound d l h =
     let own = (node_opened (open_node d)).loose bound l h in
     rw (signs_open note 0 (node_items place node)) (subst (λ (items : List Item). items_open 0 items ≤ bound) (append-nil (node_items place node)) (own.within 0 bound [] (omega arith) (omega arith)))
 
-pub opened_within : {events rest : List Event} (node : Node) → SpellsNode false (Only kind.File) node events rest → nesting_of is_nested node ≤ most_nested → open_in 0 (signs false (items_of (One (Only kind.File)) node)) ≤ most_open
-opened_within node d h = opened_at most_open d (omega arith) h
+pub opened_within : {events rest : List Event} (node : Node) → SpellsNode false (Only kind.File) node events rest → nesting_of is_nested node ≤ MOST_NESTED → open_in 0 (signs false (items_of (One (Only kind.File)) node)) ≤ MOST_OPEN
+opened_within node d h = opened_at MOST_OPEN d (omega arith) h

@@ -8,8 +8,8 @@ use Rattle.ada_tree.specs.declared.word.Word.TheVariants as word
 use Rattle.ada_tree.specs.declared.word.Mark.TheVariants as mark
 use Rattle.ada_tree.specs.declared.grammar.Own.{Own as OwnText}
 use Rattle.ada_tree.specs.declared.grammar.Own.TheVariants as own
-use Rattle.ada_tree.specs.declared.operator.Operator.{Operator}
-use Rattle.ada_tree.specs.Operators.{operators, operator_text}
+use Rattle.ada_tree.specs.declared.operator.TheConstants.{OPERATORS}
+use Rattle.ada_tree.specs.Operators.{OperatorRow}
 use Rattle.ada_tree.specs.Tokens.{Lexeme, a_number, a_word, a_mark}
 use Rattle.ada_tree.specs.Items.{Item, put, put_small, glue, line_break, indent, outdent, note_on, note_off, comment_line, signs}
 use Rattle.ada_tree.specs.Reading.{is_mark, open_after, open_in}
@@ -180,10 +180,10 @@ symbols_flat text = are_flat (symbol_items text)
 flat_as : (text wanted : List ℕ) → symbols_flat wanted ≡ true → bytes_eq text wanted ≡ true → symbols_flat text ≡ true
 flat_as text wanted f e = ap symbols_flat ((bytes_eq-Decides text wanted).0 e) ∙ f
 
-operator_flat : (text : List ℕ) (os : List Operator) → list_all (λ o. symbols_flat (operator_text o)) os ≡ true → list_any (λ o. bytes_eq (operator_text o) text) os ≡ true → symbols_flat text ≡ true
+operator_flat : (text : List ℕ) (rows : List OperatorRow) → list_all (λ row. symbols_flat row.1.now) rows ≡ true → list_any (λ row. bytes_eq row.1.now text) rows ≡ true → symbols_flat text ≡ true
 operator_flat text [] f h = absurd cc
-operator_flat text (o ∷ os) f h =
-    one_of (bytes_eq (operator_text o) text) _ h (λ e. ap symbols_flat (sym ((bytes_eq-Decides (operator_text o) text).0 e)) ∙ (both f).0) (operator_flat text os (both f).1)
+operator_flat text (row ∷ rows) f h =
+    one_of (bytes_eq row.1.now text) _ h (λ e. ap symbols_flat (sym ((bytes_eq-Decides row.1.now text).0 e)) ∙ (both f).0) (operator_flat text rows (both f).1)
 
 global_mode_flat : (text : List ℕ) → fits_own false own.GlobalMode text ≡ true → symbols_flat text ≡ true
 global_mode_flat text h = one_of (bytes_eq text (codes "in")) _ h (flat_as text (codes "in") refl) (flat_as text (codes "in out") refl)
@@ -199,6 +199,6 @@ own_flat note own.Closing text h = name_flat text
 own_flat note own.Num text h = refl
 own_flat note own.Mode text h = mode_flat text h
 own_flat note own.GlobalMode text h = global_mode_flat text h
-own_flat note own.Operator text h = operator_flat text operators refl h
+own_flat note own.Operator text h = operator_flat text OPERATORS refl h
 own_flat note own.Rule text h = rule_flat text
 own_flat note own.Key text h = key_flat (slice_split is_dot text)

@@ -1,6 +1,7 @@
 -- What open parentheses ask of the places and lines of the grammar, tested on each of them.
 use Rattle.std.proofs.Common.{◌≡◌, ℕ, List, [], ◌∷◌, refl, sym, ◌∙◌, ap, subst, Bool, true, false, not, ◌&&◌, ◌||◌, Option, Some, None}
-use Rattle.std.specs.Prelude.{is_some, find, cond, bytes_eq}
+use Rattle.std.specs.Prelude.{IfSome}
+use Rattle.std.specs.Option.{option_map_or}
 use Rattle.std.specs.List.{list_all}
 use Rattle.ada_tree.specs.declared.kind.Kind.{Kind}
 use Rattle.ada_tree.specs.declared.kind.Kind.TheVariants as kind
@@ -14,18 +15,18 @@ use Rattle.ada_tree.specs.declared.grammar.Shape.{Shape}
 use Rattle.ada_tree.specs.declared.grammar.Shape.TheVariants.{One, Listed, MaybeListed}
 use Rattle.ada_tree.specs.declared.grammar.Piece.{Piece}
 use Rattle.ada_tree.specs.declared.grammar.Piece.TheVariants.{Word, Mark as its_mark, Own, Kid, Members, Arguments, Option as Optional, Shown, End, Indent, Outdent, Glue, NoteOn, NoteOff}
-use Rattle.ada_tree.specs.declared.operator.Operator.{Operator}
-use Rattle.ada_tree.specs.declared.operator.Operator.TheVariants as op
+use Rattle.ada_tree.specs.declared.operator.OperatorEntry.{OperatorEntry}
 use Rattle.ada_tree.specs.declared.operator.Level.{Level}
 use Rattle.ada_tree.specs.declared.operator.Level.TheVariants as level
-use Rattle.ada_tree.specs.Kinds.{is_kind, is_among}
+use Rattle.ada_tree.specs.Kinds.{is_among}
 use Rattle.ada_tree.specs.Nodes.{is_nested}
 use Rattle.ada_tree.specs.Tokens.{a_mark}
-use Rattle.ada_tree.specs.Operators.{operator_entry, operator_of, operator_text, operators}
-use Rattle.ada_tree.specs.Choices.{kinds, expression_kinds, level_of, level_on_side, floor, binds, is_coefficient, is_only, stands}
-use Rattle.ada_tree.specs.Lines.{line, operator_line, unary_line}
+use Rattle.ada_tree.specs.Operators.{entry_of}
+use Rattle.ada_tree.specs.Choices.{kinds, expression_kinds, level_of, on_side, floor, binds, is_coefficient, is_only, is_tight as is_tight_level, stands}
+use Rattle.ada_tree.specs.Lines.{line, line_by_operator, select_line, unary_line}
 use Rattle.ada_tree.specs.Spelling.{after_end, listed_place}
-use Rattle.ada_tree.specs.Canonical.{is_compound, is_wrapped}
+use Rattle.ada_tree.specs.Canonical.{is_compound, is_looser, is_wrapped}
+use Rattle.ada_tree.proofs.Found.{entry_of_kind_passes, line_holds, line_of_kind_holds, found_line_holds}
 use Rattle.ada_tree.proofs.round_trip.Places.{both, same_kind, all_among}
 use Rattle.ada_tree.proofs.round_trip.Parentheses.{wrapped_opens, same_line}
 use Rattle.ada_tree.proofs.round_trip.Lines.{has_kid, has_lists}
@@ -66,14 +67,14 @@ is_counted place = places_of is_counted_kind place
 all_standing : (P : Kind → Bool) → ((note : Bool) → list_all P (expression_kinds note) ≡ true) → (note : Bool) (place : Choice) (k : Kind) (text : List ℕ)
     → ((wanted : Kind) → place ≡ choice.Only wanted → P wanted ≡ true) → list_all P (kinds place) ≡ true → stands note place k text ≡ true → P k ≡ true
 all_standing P exps note place k text only own h =
-    one_of (is_only place k || is_among k (kinds place) || is_coefficient place k text) _ h
-    (λ e. one_of (is_only place k || is_among k (kinds place)) _ e
-    (λ f. one_of (is_only place k) _ f (at_only place only) (all_among P (kinds place) own k))
+    one_of (is_only note place k text || is_among k (kinds place) || is_coefficient place k text) _ h
+    (λ e. one_of (is_only note place k text || is_among k (kinds place)) _ e
+    (λ f. one_of (is_only note place k text) _ f (at_only place only) (all_among P (kinds place) own k))
     (at_coefficient place))
     (bound (floor place))
   where
-    at_only : (place : Choice) → ((wanted : Kind) → place ≡ choice.Only wanted → P wanted ≡ true) → is_only place k ≡ true → P k ≡ true
-    at_only (choice.Only wanted) only e = ap P (sym (same_kind wanted k e)) ∙ only wanted refl
+    at_only : (place : Choice) → ((wanted : Kind) → place ≡ choice.Only wanted → P wanted ≡ true) → is_only note place k text ≡ true → P k ≡ true
+    at_only (choice.Only wanted) only e = ap P (sym (same_kind wanted k (both e).0)) ∙ only wanted refl
     at_only _ only e = absurd cc
 
     at_coefficient : (place : Choice) → is_coefficient place k text ≡ true → P k ≡ true
@@ -193,48 +194,42 @@ is_counted_line _ = false
 
 -- ---- the written table
 
-loose_operator : (o : Option Operator) → is_loose_line false false (operator_line o) ≡ true
-loose_operator None = refl
-loose_operator (Some op.And) = refl
-loose_operator (Some _) = refl
+loose_operator : (k : Kind) (text : List ℕ) → is_loose_line false false (line_by_operator k text) ≡ true
+loose_operator k text = line_holds (is_loose_line false false) refl refl k text
 
 loose_unary : (place : Choice) (text : List ℕ) → is_loose_line false false (unary_line place text) ≡ true
 loose_unary choice.Coefficient text = refl
-loose_unary _ text = loose_operator (operator_of kind.Unary text)
+loose_unary _ text = loose_operator kind.Unary text
+
+loose_select : (place : Choice) → is_loose_line false false (select_line place) ≡ true
+loose_select choice.Mark = refl
+loose_select _ = refl
 
 pub loose_line : (place : Choice) (k : Kind) (text : List ℕ) → is_loose_line false false (line place k text) ≡ true
-loose_line place kind.Binary text = loose_operator (operator_of kind.Binary text)
+loose_line place kind.Binary text = loose_operator kind.Binary text
 loose_line place kind.Unary text = loose_unary place text
-loose_line place kind.Member text = loose_operator (operator_of kind.Member text)
-loose_line place kind.Make text = loose_operator (operator_of kind.Make text)
+loose_line place kind.Select text = loose_select place
+loose_line place kind.Member text = loose_operator kind.Member text
+loose_line place kind.Make text = loose_operator kind.Make text
 loose_line place _ text = refl
 
 -- a tight line, or that of a nested kind, with parentheses round parts that are counted
 abbrev pub is_fit : Kind → List Piece → Bool
 is_fit k pieces = is_tight_line pieces || (is_nested k && is_counted_line pieces)
 
-fit_operator : (k : Kind) → is_nested k ≡ true → (o : Option Operator) → is_fit k (operator_line o) ≡ true
-fit_operator k n None = refl
-fit_operator k n (Some op.And) = refl
-fit_operator k n (Some op.Store) = rw n refl
-fit_operator k n (Some op.Update) = rw n refl
-fit_operator k n (Some op.Fill) = rw n refl
-fit_operator k n (Some op.Make) = rw n refl
-fit_operator k n (Some _) = refl
-
 fit_unary : (place : Choice) (text : List ℕ) → is_fit kind.Unary (unary_line place text) ≡ true
 fit_unary choice.Coefficient text = refl
-fit_unary _ text = fit_operator kind.Unary refl (operator_of kind.Unary text)
+fit_unary _ text = line_holds (is_fit kind.Unary) refl refl kind.Unary text
 
 fit_select : (place : Choice) (text : List ℕ) → is_fit kind.Select (line place kind.Select text) ≡ true
 fit_select choice.Mark text = refl
 fit_select _ text = refl
 
 pub fit_line : (place : Choice) (k : Kind) (text : List ℕ) → is_tight_kind k ≡ true → is_fit k (line place k text) ≡ true
-fit_line place kind.Binary text h = fit_operator kind.Binary refl (operator_of kind.Binary text)
+fit_line place kind.Binary text h = line_holds (is_fit kind.Binary) refl refl kind.Binary text
 fit_line place kind.Unary text h = fit_unary place text
-fit_line place kind.Member text h = fit_operator kind.Member refl (operator_of kind.Member text)
-fit_line place kind.Make text h = fit_operator kind.Make refl (operator_of kind.Make text)
+fit_line place kind.Member text h = line_holds (is_fit kind.Member) refl refl kind.Member text
+fit_line place kind.Make text h = line_holds (is_fit kind.Make) refl refl kind.Make text
 fit_line place kind.Select text h = fit_select place text
 fit_line place kind.Doc text h = absurd cc
 fit_line place _ text h = cc
@@ -258,52 +253,39 @@ wrapped_kinds = kind.Binary ∷ kind.Unary ∷ kind.Member ∷ kind.All ∷ kind
 compound_kind : (k : Kind) → is_compound k ≡ true → is_among k wrapped_kinds ≡ true
 compound_kind k h = all_among (λ k. is_among k wrapped_kinds) (kind.Binary ∷ kind.Unary ∷ kind.Member ∷ kind.All ∷ kind.Exists ∷ kind.Cond ∷ []) refl k h
 
+no_looser : (e : Option OperatorEntry) → IfSome e (λ entry. is_tight_level level.Sum (Some entry.level) ≡ true) → is_looser level.Sum (option_map_or (λ entry. Some entry.level) e None) ≡ true → ⊥
+no_looser None h w = absurd cc
+no_looser (Some entry) h w = absurd cc
+
+looser_kind : (k : Kind) (text : List ℕ) → is_looser level.Sum (level_of k text) ≡ true → is_among k wrapped_kinds ≡ true
+looser_kind kind.Binary text w = refl
+looser_kind kind.Unary text w = refl
+looser_kind kind.Member text w = refl
+looser_kind kind.All text w = refl
+looser_kind kind.Exists text w = refl
+looser_kind kind.Cond text w = refl
+looser_kind kind.Make text w = absurd (no_looser (entry_of kind.Make text) (entry_of_kind_passes kind.Make (λ entry. is_tight_level level.Sum (Some entry.level)) refl text) w)
+looser_kind _ text w = absurd cc
+
 wrapped_kind : (place : Choice) (k : Kind) (text : List ℕ) → is_wrapped place k text ≡ true → is_among k wrapped_kinds ≡ true
 wrapped_kind (choice.Operand level.Prefix) k text w = one_of (is_compound k) _ w (compound_kind k) (λ e. ap (λ k. is_among k wrapped_kinds) (same_kind k kind.Old e))
 wrapped_kind (choice.Operand _) k text w = compound_kind k w
 wrapped_kind (choice.Chain operator) k text w = compound_kind k w
-wrapped_kind choice.Limit k text w = compound_kind k w
-wrapped_kind choice.Bound k text w =
-    one_of (is_among k (kind.Member ∷ kind.All ∷ kind.Exists ∷ kind.Cond ∷ [])) _ w
-    (all_among (λ k. is_among k wrapped_kinds) (kind.Member ∷ kind.All ∷ kind.Exists ∷ kind.Cond ∷ []) refl k)
-    (λ e. ap (λ k. is_among k wrapped_kinds) (same_kind k kind.Binary (both e).0))
+wrapped_kind choice.Bound k text w = looser_kind k text w
 wrapped_kind _ k text w = absurd cc
 
-tight_operator : (wanted : Kind) → is_kind kind.Make wanted ≡ false → (o : Operator) → is_kind (operator_entry o).kind wanted ≡ true → is_tight_line (operator_line (Some o)) ≡ true
-tight_operator wanted n op.Store h = absurd cc
-tight_operator wanted n op.Update h = absurd cc
-tight_operator wanted n op.Fill h = absurd cc
-tight_operator wanted n op.Make h = absurd cc
-tight_operator wanted n _ h = refl
-
-tight_found : (wanted : Kind) → is_kind kind.Make wanted ≡ false → (text : List ℕ) (os : List Operator) → is_tight_line (operator_line (find (λ o. is_kind (operator_entry o).kind wanted && bytes_eq (operator_text o) text) os)) ≡ true
-tight_found wanted n text [] = refl
-tight_found wanted n text (o ∷ os) = by_test (passes o) refl (tight_found wanted n text os)
-  where
-    passes : Operator → Bool
-    passes o = is_kind (operator_entry o).kind wanted && bytes_eq (operator_text o) text
-
-    by_test : (b : Bool) → passes o ≡ b → is_tight_line (operator_line (find passes os)) ≡ true → is_tight_line (operator_line (cond b (Some o) (find passes os))) ≡ true
-    by_test true e later = tight_operator wanted n o (both {b = bytes_eq (operator_text o) text} e).0
-    by_test false e later = later
-
 tight_anywhere : (k : Kind) (text : List ℕ) → is_among k wrapped_kinds ≡ true → is_tight_line (line choice.Expr k text) ≡ true
-tight_anywhere kind.Binary text h = tight_found kind.Binary refl text operators
-tight_anywhere kind.Unary text h = tight_found kind.Unary refl text operators
-tight_anywhere kind.Member text h = tight_found kind.Member refl text operators
+tight_anywhere kind.Binary text h = line_of_kind_holds is_tight_line refl kind.Binary refl text
+tight_anywhere kind.Unary text h = line_of_kind_holds is_tight_line refl kind.Unary refl text
+tight_anywhere kind.Member text h = line_of_kind_holds is_tight_line refl kind.Member refl text
 tight_anywhere kind.Make text h = absurd cc
 tight_anywhere kind.Doc text h = absurd cc
 tight_anywhere _ text h = cc
 
-counted_operator : (note : Bool) (o : Option Operator) → is_some (level_on_side note o) ≡ true → is_counted_line (operator_line o) ≡ true
-counted_operator note None h = absurd cc
-counted_operator note (Some op.And) h = refl
-counted_operator note (Some _) h = refl
-
-counted_anywhere : (note : Bool) (k : Kind) (text : List ℕ) → is_among k wrapped_kinds ≡ true → is_some (level_of note k text) ≡ true → is_counted_line (line choice.Expr k text) ≡ true
-counted_anywhere note kind.Binary text h s = counted_operator note (operator_of kind.Binary text) s
-counted_anywhere note kind.Unary text h s = counted_operator note (operator_of kind.Unary text) s
-counted_anywhere note kind.Member text h s = counted_operator note (operator_of kind.Member text) s
+counted_anywhere : (note : Bool) (k : Kind) (text : List ℕ) → is_among k wrapped_kinds ≡ true → on_side note k text ≡ true → is_counted_line (line choice.Expr k text) ≡ true
+counted_anywhere note kind.Binary text h s = found_line_holds is_counted_line refl note kind.Binary text s
+counted_anywhere note kind.Unary text h s = found_line_holds is_counted_line refl note kind.Unary text s
+counted_anywhere note kind.Member text h s = found_line_holds is_counted_line refl note kind.Member text s
 counted_anywhere note kind.Make text h s = absurd cc
 counted_anywhere note kind.Doc text h s = absurd cc
 counted_anywhere note _ text h s = cc
@@ -323,6 +305,6 @@ wrapped_counted note place k text w h =
 -- a list of arguments in parentheses has tight members
 pub tight_arguments : (a : Argument) (place : Choice) → listed_place a ≡ Some place → is_tight place ≡ true
 tight_arguments argument.Names place h = let e : choice.Only kind.Name ≡ place = cc in subst (λ p. is_tight p ≡ true) e refl
-tight_arguments argument.Terms place h = let e : choice.Term ≡ place = cc in subst (λ p. is_tight p ≡ true) e refl
+tight_arguments argument.Terms place h = let e : choice.Expr ≡ place = cc in subst (λ p. is_tight p ≡ true) e refl
 tight_arguments argument.Coefficients place h = let e : choice.Coefficient ≡ place = cc in subst (λ p. is_tight p ≡ true) e refl
 tight_arguments _ place h = absurd cc

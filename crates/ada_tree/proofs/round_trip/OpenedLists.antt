@@ -73,7 +73,7 @@ one_argument_opened {a = a} {others = others} {place = place} {node = node} {nod
   loose = λ bound l h. rw (argument_items a others place node nodes p) (both_opened (one.loose bound l (omega arith)) (more.loose bound l (omega arith)));
 }
 
-pub number_opened : {node : Node} → IsNodeOpened choice.Number node → AreArgumentsOpened (argument.InNumber ∷ []) (node ∷ [])
+pub number_opened : {node : Node} → IsNodeOpened (choice.Only kind.Int) node → AreArgumentsOpened (argument.InNumber ∷ []) (node ∷ [])
 number_opened one = record {
   loose = λ bound l h. flat_append (put (a_word word.In) ∷ []) refl (both_opened (one.loose bound l (omega arith)) nothing_opened);
 }

@@ -10,7 +10,7 @@ use Rattle.ada_tree.specs.declared.grammar.Choice.{Choice}
 use Rattle.ada_tree.specs.declared.grammar.Choice.TheVariants as choice
 use Rattle.ada_tree.specs.declared.operator.Level.{Level}
 use Rattle.ada_tree.specs.Kinds.{is_kind, is_among}
-use Rattle.ada_tree.specs.Choices.{kinds, expression_kinds, floor, binds, is_coefficient, is_only, stands}
+use Rattle.ada_tree.specs.Choices.{kinds, expression_kinds, floor, on_side, binds, is_coefficient, is_only, stands}
 
 -- ---- tests of places
 
@@ -103,24 +103,24 @@ special_coefficient choice.Coefficient text = refl
 special_coefficient _ text = refl
 
 -- a special kind stands at its own place alone
-only_there : (note : Bool) (place : Choice) (k : Kind) (text : List ℕ) → is_special k ≡ true → stands note place k text ≡ true → is_only place k ≡ true
+only_there : (note : Bool) (place : Choice) (k : Kind) (text : List ℕ) → is_special k ≡ true → stands note place k text ≡ true → is_only note place k text ≡ true
 only_there note place k text s h =
-    no_others (is_only place k) _ _ _
+    no_others (is_only note place k text) _ _ _
     (not-true _ (all_among (λ k. not (is_among k (kinds place))) specials (no_specials place) k s))
     (not-true _ (all_among (λ k. not (is_coefficient place k text)) specials (special_coefficient place text) k s))
     (binds_none note place (floor place) k text (special_binds note k s)) h
 
 -- what a test says of a special kind that stands somewhere, it says of the place
-at_own_place : (P : Choice → Bool) (place : Choice) (k : Kind) → is_only place k ≡ true → P place ≡ P (choice.Only k)
-at_own_place P (choice.Only wanted) k h = ap (λ k. P (choice.Only k)) (same_kind wanted k h)
-at_own_place P choice.Item k h = absurd cc
-at_own_place P _ k h = absurd cc
+at_own_place : (P : Choice → Bool) (note : Bool) (place : Choice) (k : Kind) (text : List ℕ) → is_only note place k text ≡ true → P place ≡ P (choice.Only k)
+at_own_place P note (choice.Only wanted) k text h = ap (λ k. P (choice.Only k)) (same_kind wanted k (both h).0)
+at_own_place P note choice.Item k text h = absurd cc
+at_own_place P note _ k text h = absurd cc
 
 -- where kinds that may end with comments, or begin with them, or that begin with a token stand
 
 pub open_stands : (note : Bool) (place : Choice) (k : Kind) (text : List ℕ) → stands note place k text ≡ true → is_open_kind k ≡ true → is_open place ≡ true
 open_stands note place k text h o =
-    at_own_place is_open place k (only_there note place k text (all_among is_special (kind.File ∷ kind.Seq ∷ kind.Handler ∷ kind.Elsif ∷ kind.Alt ∷ []) refl k o) h) ∙ o
+    at_own_place is_open note place k text (only_there note place k text (all_among is_special (kind.File ∷ kind.Seq ∷ kind.Handler ∷ kind.Elsif ∷ kind.Alt ∷ []) refl k o) h) ∙ o
 
 pub plain_stands : (note : Bool) (place : Choice) (k : Kind) (text : List ℕ) → stands note place k text ≡ true → is_plain place ≡ true → is_plain_kind k ≡ true
 plain_stands note place k text h p = by_test (is_plain_kind k) refl
@@ -128,7 +128,7 @@ plain_stands note place k text h p = by_test (is_plain_kind k) refl
     by_test : (b : Bool) → is_plain_kind k ≡ b → is_plain_kind k ≡ true
     by_test true e = e
     by_test false e =
-        sym (at_own_place is_plain place k (only_there note place k text (all_among is_special (kind.Doc ∷ kind.File ∷ kind.Seq ∷ []) refl k (not-false _ e)) h)) ∙ p
+        sym (at_own_place is_plain note place k text (only_there note place k text (all_among is_special (kind.Doc ∷ kind.File ∷ kind.Seq ∷ []) refl k (not-false _ e)) h)) ∙ p
 
 pub proper_stands : (note : Bool) (place : Choice) (k : Kind) (text : List ℕ) → stands note place k text ≡ true → is_proper place ≡ true → is_improper_kind k ≡ false
 proper_stands note place k text h p = by_test (is_improper_kind k) refl
@@ -136,7 +136,7 @@ proper_stands note place k text h p = by_test (is_improper_kind k) refl
     by_test : (b : Bool) → is_improper_kind k ≡ b → is_improper_kind k ≡ false
     by_test false e = e
     by_test true e =
-        not-true _ (sym (at_own_place is_proper place k (only_there note place k text (all_among is_special (kind.Doc ∷ kind.None ∷ []) refl k e) h)) ∙ p)
+        not-true _ (sym (at_own_place is_proper note place k text (only_there note place k text (all_among is_special (kind.Doc ∷ kind.None ∷ []) refl k e) h)) ∙ p)
 
 left_of_two : (a : Bool) → a || false || false ≡ true → a ≡ true
 left_of_two true h = refl
@@ -152,5 +152,5 @@ sure_stands note choice.Lib k text h s = all_among is_sure_kind (kinds choice.Li
 sure_stands note choice.Decl k text h s = all_among is_sure_kind (kinds choice.Decl) refl k (left_of_two _ h)
 sure_stands note choice.Stmt k text h s = all_among is_sure_kind (kinds choice.Stmt) refl k (left_of_two _ h)
 sure_stands note (choice.Only wanted) k text h s =
-    all_among is_sure_kind (kind.Handler ∷ kind.Alt ∷ []) refl k (ap (λ k. is_among k (kind.Handler ∷ kind.Alt ∷ [])) (sym (same_kind wanted k (left_of_three _ h))) ∙ s)
+    all_among is_sure_kind (kind.Handler ∷ kind.Alt ∷ []) refl k (ap (λ k. is_among k (kind.Handler ∷ kind.Alt ∷ [])) (sym (same_kind wanted k (both (left_of_three (is_kind wanted k && on_side note k text) h)).0)) ∙ s)
 sure_stands note _ k text h s = absurd cc

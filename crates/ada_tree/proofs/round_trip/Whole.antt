@@ -1,5 +1,5 @@
 -- The canonical text of each file of a document is read as that file.
-use Rattle.std.proofs.Common.{◌≡◌, ℕ, ◌+◌, ◌≤◌, List, [], ◌∷◌, refl, sym, subst, Bool, true, false, ◌||◌, map, if◌then◌else◌, arith}
+use Rattle.std.proofs.Common.{◌≡◌, ℕ, ◌+◌, ◌≤◌, List, [], ◌∷◌, refl, sym, subst, Bool, true, false, ◌&&◌, ◌||◌, map, if◌then◌else◌, arith}
 use Rattle.std.specs.Prelude.{Contains}
 use Rattle.std.specs.List.{All}
 use Rattle.std.proofs.lemmas.List.Elements.{All-nil, All-cons, All-contains}
@@ -14,6 +14,7 @@ use Rattle.ada_tree.specs.Kinds.{is_kind}
 use Rattle.ada_tree.specs.Nodes.{kind_of, text_of, kids_of, nesting_of, greatest, is_nested, is_step}
 use Rattle.ada_tree.specs.Tokens.{Event}
 use Rattle.ada_tree.specs.Items.{signs}
+use Rattle.ada_tree.specs.Choices.{on_side, stands}
 use Rattle.ada_tree.specs.Lines.{line}
 use Rattle.ada_tree.specs.Reading.{IsReading, IsNested}
 use Rattle.ada_tree.specs.Fits.{Fits}
@@ -40,17 +41,17 @@ kids_spelled : {note : Bool} {place : Choice} {node : Node} {kids : List Node} {
 kids_spelled (its_members ds) = members_spelled ds
 kids_spelled (laid_out l d) = absurd cc
 
-only_doc : (k : Kind) → is_kind kind.Doc k || false || false || false ≡ true → kind.Doc ≡ k
-only_doc k h = same_kind kind.Doc k (front (is_kind kind.Doc k) h)
+only_doc : (k : Kind) (text : List ℕ) → stands false (Only kind.Doc) k text ≡ true → kind.Doc ≡ k
+only_doc k text h = same_kind kind.Doc k (front (is_kind kind.Doc k) (on_side false k text) h)
   where
-    front : (b : Bool) → b || false || false || false ≡ true → b ≡ true
-    front true h = refl
-    front false h = absurd cc
+    front : (a b : Bool) → a && b || false || false || false ≡ true → a ≡ true
+    front true b h = refl
+    front false b h = absurd cc
 
 files_spelled : {root : Node} {events rest : List Event} → SpellsNode false (Only kind.Doc) root events rest → All (IsSpelled false (Only kind.File)) (kids_of root)
 files_spelled (in_parentheses o d) = absurd cc
 files_spelled {root = root} {events = events} {rest = rest} (by_line s h c d) =
-    let same = only_doc (kind_of root) s in
+    let same = only_doc (kind_of root) (text_of root) s in
     kids_spelled (subst (λ k. SpellsLine false (line (Only kind.Doc) k (text_of root)) root (kids_of root) events rest) (sym same) d)
 
 pub file_spelled : (root file : Node) → Fits root → Contains (kids_of root) file → IsSpelled false (Only kind.File) file
@@ -76,10 +77,7 @@ canonical_is_read root file fits i =
     let above = fits.nested in
     let nested : IsNested file = record { nodes = omega (arith, above.nodes); steps = omega (arith, above.steps) } in
     record {
-      events = own.events;
-      spelling = own.spelling;
-      fitting = refl;
-      attached = own.attached;
+      reading = record { events = own.events; spelling = own.spelling; fitting = refl; attached = own.attached };
       nested = nested;
       opened = opened_within file found.spelling nested.nodes;
     }

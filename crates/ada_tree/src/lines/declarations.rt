@@ -3,6 +3,7 @@ use crate::grammar::{Choice, Own, Piece, Shape};
 use crate::kind::Kind;
 use crate::word::{Mark, Word};
 
+// Obj = {Id ,} ":" mark [ Range ] [ ":=" expr ] ";"
 pub const OBJ: &[Piece] = &[
     Piece::Kid(Shape::Listed(Choice::Only(Kind::Id), Mark::Comma)),
     Piece::Mark(Mark::Colon),
@@ -17,6 +18,7 @@ pub const OBJ: &[Piece] = &[
     Piece::Mark(Mark::Semicolon),
 ];
 
+// Const = {Id ,} ":" "constant" mark [ Range ] ":=" expr ";"
 pub const CONST: &[Piece] = &[
     Piece::Kid(Shape::Listed(Choice::Only(Kind::Id), Mark::Comma)),
     Piece::Mark(Mark::Colon),
@@ -30,6 +32,7 @@ pub const CONST: &[Piece] = &[
     Piece::Mark(Mark::Semicolon),
 ];
 
+// Num = {Id ,} ":" "constant" ":=" expr ";"
 pub const NUM: &[Piece] = &[
     Piece::Kid(Shape::Listed(Choice::Only(Kind::Id), Mark::Comma)),
     Piece::Mark(Mark::Colon),
@@ -39,6 +42,7 @@ pub const NUM: &[Piece] = &[
     Piece::Mark(Mark::Semicolon),
 ];
 
+// Range = "range" expr ".." expr, where the bounds are of the level of sums or a tighter one
 pub const RANGE: &[Piece] = &[
     Piece::Word(Word::Range),
     Piece::Kid(Shape::One(Choice::Bound)),
@@ -46,6 +50,7 @@ pub const RANGE: &[Piece] = &[
     Piece::Kid(Shape::One(Choice::Bound)),
 ];
 
+// Type = "type" <id> "is" tdef ";"
 pub const TYPE_DECL: &[Piece] = &[
     Piece::Word(Word::Type),
     Piece::Own(Own::Id),
@@ -54,12 +59,14 @@ pub const TYPE_DECL: &[Piece] = &[
     Piece::Mark(Mark::Semicolon),
 ];
 
+// Enum = "(" {Id ,} ")"
 pub const ENUM: &[Piece] = &[
     Piece::Mark(Mark::Open),
     Piece::Kid(Shape::Listed(Choice::Only(Kind::Id), Mark::Comma)),
     Piece::Mark(Mark::Close),
 ];
 
+// Arr = "array" "(" dis ")" "of" mark
 pub const ARR: &[Piece] = &[
     Piece::Word(Word::Array),
     Piece::Mark(Mark::Open),
@@ -69,6 +76,7 @@ pub const ARR: &[Piece] = &[
     Piece::Kid(Shape::One(Choice::Mark)),
 ];
 
+// Rec = "record" \> {Comp \n}+ \< "end" "record"
 pub const REC: &[Piece] = &[
     Piece::Word(Word::Record),
     Piece::Indent,
@@ -78,6 +86,7 @@ pub const REC: &[Piece] = &[
     Piece::Word(Word::Record),
 ];
 
+// Comp = {Id ,} ":" mark ";"
 pub const COMP: &[Piece] = &[
     Piece::Kid(Shape::Listed(Choice::Only(Kind::Id), Mark::Comma)),
     Piece::Mark(Mark::Colon),
@@ -85,6 +94,7 @@ pub const COMP: &[Piece] = &[
     Piece::Mark(Mark::Semicolon),
 ];
 
+// Subtype = "subtype" <id> "is" mark [ Range ] ";"
 pub const SUBTYPE: &[Piece] = &[
     Piece::Word(Word::Subtype),
     Piece::Own(Own::Id),
@@ -96,6 +106,7 @@ pub const SUBTYPE: &[Piece] = &[
     Piece::Mark(Mark::Semicolon),
 ];
 
+// Exc = {Id ,} ":" "exception" ";"
 pub const EXC: &[Piece] = &[
     Piece::Kid(Shape::Listed(Choice::Only(Kind::Id), Mark::Comma)),
     Piece::Mark(Mark::Colon),
@@ -103,6 +114,7 @@ pub const EXC: &[Piece] = &[
     Piece::Mark(Mark::Semicolon),
 ];
 
+// Private = "type" <id> "is" "private" ";" [ Based ]
 pub const PRIVATE: &[Piece] = &[
     Piece::Word(Word::Type),
     Piece::Own(Own::Id),
@@ -114,12 +126,14 @@ pub const PRIVATE: &[Piece] = &[
     Piece::End,
 ];
 
+// Span = expr ".." expr, where the bounds are of the level of sums or a tighter one
 pub const SPAN: &[Piece] = &[
     Piece::Kid(Shape::One(Choice::Bound)),
     Piece::Mark(Mark::Dots),
     Piece::Kid(Shape::One(Choice::Bound)),
 ];
 
+// RangeOf = mark "'" "range"
 pub const RANGE_OF: &[Piece] = &[
     Piece::Kid(Shape::One(Choice::Mark)),
     Piece::Mark(Mark::Tick),

@@ -3,6 +3,7 @@ use crate::grammar::{Choice, Own, Piece, Shape};
 use crate::kind::Kind;
 use crate::word::{Mark, Word};
 
+// Proof = [| "proof" "of" Key "is" \> Step \< "end" "proof" ";" |]
 pub const PROOF: &[Piece] = &[
     Piece::NoteOn,
     Piece::Word(Word::Proof),
@@ -18,6 +19,7 @@ pub const PROOF: &[Piece] = &[
     Piece::NoteOff,
 ];
 
+// Orphan = [| "orphan" "proof" "of" Key "is" \> Step \< "end" "proof" ";" |]
 pub const ORPHAN: &[Piece] = &[
     Piece::NoteOn,
     Piece::Word(Word::Orphan),
@@ -34,8 +36,10 @@ pub const ORPHAN: &[Piece] = &[
     Piece::NoteOff,
 ];
 
+// Key = <key>
 pub const KEY: &[Piece] = &[Piece::Own(Own::Key)];
 
+// Step = <rule> {arg} [ "[" {Step ;} "]" ], where the arguments are those of the rule
 pub const STEP: &[Piece] = &[
     Piece::Own(Own::Rule),
     Piece::Arguments,

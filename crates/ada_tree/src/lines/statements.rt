@@ -3,6 +3,7 @@ use crate::grammar::{Choice, Own, Piece, Shape};
 use crate::kind::Kind;
 use crate::word::{Mark, Word};
 
+// Seq = {stmt \n}+ [ "exception" \> {Handler \n}+ \< ]
 pub const SEQ: &[Piece] = &[
     Piece::Kid(Shape::Many(Choice::Stmt)),
     Piece::Option,
@@ -13,6 +14,7 @@ pub const SEQ: &[Piece] = &[
     Piece::End,
 ];
 
+// Handler = "when" choices "=>" \> {stmt \n}+ \<
 pub const HANDLER: &[Piece] = &[
     Piece::Word(Word::When),
     Piece::Kid(Shape::One(Choice::Choices)),
@@ -22,12 +24,16 @@ pub const HANDLER: &[Piece] = &[
     Piece::Outdent,
 ];
 
+// Others = "others"
 pub const OTHERS: &[Piece] = &[Piece::Word(Word::Others)];
 
+// Choices = {choice |}
 pub const CHOICES: &[Piece] = &[Piece::Kid(Shape::Listed(Choice::Choice, Mark::Bar))];
 
+// Null = "null" ";"
 pub const NULL: &[Piece] = &[Piece::Word(Word::Null), Piece::Mark(Mark::Semicolon)];
 
+// Assign = expr ":=" expr ";"
 pub const ASSIGN: &[Piece] = &[
     Piece::Kid(Shape::One(Choice::Expr)),
     Piece::Mark(Mark::Becomes),
@@ -35,11 +41,13 @@ pub const ASSIGN: &[Piece] = &[
     Piece::Mark(Mark::Semicolon),
 ];
 
+// Call = expr ";"
 pub const CALL: &[Piece] = &[
     Piece::Kid(Shape::One(Choice::Expr)),
     Piece::Mark(Mark::Semicolon),
 ];
 
+// If = "if" expr "then" \> {stmt \n}+ \< {Elsif} [ "else" \> {stmt \n}+ \< ] "end" "if" ";"
 pub const IF: &[Piece] = &[
     Piece::Word(Word::If),
     Piece::Kid(Shape::One(Choice::Expr)),
@@ -59,6 +67,7 @@ pub const IF: &[Piece] = &[
     Piece::Mark(Mark::Semicolon),
 ];
 
+// Elsif = "elsif" expr "then" \> {stmt \n}+ \<
 pub const ELSIF: &[Piece] = &[
     Piece::Word(Word::Elsif),
     Piece::Kid(Shape::One(Choice::Expr)),
@@ -68,6 +77,7 @@ pub const ELSIF: &[Piece] = &[
     Piece::Outdent,
 ];
 
+// Case = "case" expr "is" \> {Alt \n}+ \< "end" "case" ";"
 pub const CASE: &[Piece] = &[
     Piece::Word(Word::Case),
     Piece::Kid(Shape::One(Choice::Expr)),
@@ -80,6 +90,7 @@ pub const CASE: &[Piece] = &[
     Piece::Mark(Mark::Semicolon),
 ];
 
+// Alt = "when" choices "=>" \> {stmt \n}+ \<
 pub const ALT: &[Piece] = &[
     Piece::Word(Word::When),
     Piece::Kid(Shape::One(Choice::Choices)),
@@ -89,6 +100,7 @@ pub const ALT: &[Piece] = &[
     Piece::Outdent,
 ];
 
+// Loop = [ head ] "loop" \> [ Invariant ] {stmt \n}+ \< "end" "loop" ";"
 pub const LOOP: &[Piece] = &[
     Piece::Option,
     Piece::Kid(Shape::One(Choice::Head)),
@@ -105,11 +117,13 @@ pub const LOOP: &[Piece] = &[
     Piece::Mark(Mark::Semicolon),
 ];
 
+// While = "while" expr
 pub const WHILE: &[Piece] = &[
     Piece::Word(Word::While),
     Piece::Kid(Shape::One(Choice::Expr)),
 ];
 
+// For = "for" <id> "in" dis
 pub const FOR: &[Piece] = &[
     Piece::Word(Word::For),
     Piece::Own(Own::Id),
@@ -117,6 +131,7 @@ pub const FOR: &[Piece] = &[
     Piece::Kid(Shape::One(Choice::Dis)),
 ];
 
+// Reverse = "for" <id> "in" "reverse" dis
 pub const REVERSE: &[Piece] = &[
     Piece::Word(Word::For),
     Piece::Own(Own::Id),
@@ -125,6 +140,7 @@ pub const REVERSE: &[Piece] = &[
     Piece::Kid(Shape::One(Choice::Dis)),
 ];
 
+// Block = [ "declare" \> {decl \n} \< ] "begin" \> Seq \< "end" ";"
 pub const BLOCK: &[Piece] = &[
     Piece::Option,
     Piece::Word(Word::Declare),
@@ -140,6 +156,7 @@ pub const BLOCK: &[Piece] = &[
     Piece::Mark(Mark::Semicolon),
 ];
 
+// Exit = "exit" [ "when" expr ] ";"
 pub const EXIT: &[Piece] = &[
     Piece::Word(Word::Exit),
     Piece::Option,
@@ -149,6 +166,7 @@ pub const EXIT: &[Piece] = &[
     Piece::Mark(Mark::Semicolon),
 ];
 
+// Return = "return" [ expr ] ";"
 pub const RETURN: &[Piece] = &[
     Piece::Word(Word::Return),
     Piece::Option,
@@ -157,6 +175,7 @@ pub const RETURN: &[Piece] = &[
     Piece::Mark(Mark::Semicolon),
 ];
 
+// Raise = "raise" [ mark ] ";"
 pub const RAISE: &[Piece] = &[
     Piece::Word(Word::Raise),
     Piece::Option,
@@ -165,10 +184,11 @@ pub const RAISE: &[Piece] = &[
     Piece::Mark(Mark::Semicolon),
 ];
 
+// Assert = [| "assert" term ";" |]
 pub const ASSERT: &[Piece] = &[
     Piece::NoteOn,
     Piece::Word(Word::Assert),
-    Piece::Kid(Shape::One(Choice::Term)),
+    Piece::Kid(Shape::One(Choice::Expr)),
     Piece::Mark(Mark::Semicolon),
     Piece::NoteOff,
 ];

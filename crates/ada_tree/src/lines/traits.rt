@@ -3,6 +3,7 @@ use crate::grammar::{Choice, Own, Piece, Shape};
 use crate::kind::Kind;
 use crate::word::{Mark, Word};
 
+// Trait = [| "trait" <id> "is" \> {Incl \n} [ "introduces" \> {Op \n} \< ] {Gen \n} [ "asserts" ["for" "all" {Vars ;}] \> {Eqn \n} \< ] [ "implies" ["for" "all" {Vars ;}] \> {Lemma \n} \< ] \< "end" "trait" ";" |]
 pub const TRAIT: &[Piece] = &[
     Piece::NoteOn,
     Piece::Word(Word::Trait),
@@ -38,12 +39,14 @@ pub const TRAIT: &[Piece] = &[
     Piece::NoteOff,
 ];
 
+// Incl = "includes" Name ";"
 pub const INCL: &[Piece] = &[
     Piece::Word(Word::Includes),
     Piece::Kid(Shape::One(Choice::Only(Kind::Name))),
     Piece::Mark(Mark::Semicolon),
 ];
 
+// Op = <id> ":" {mark ,} "->" mark ";", where the list may be empty
 pub const OP: &[Piece] = &[
     Piece::Own(Own::Id),
     Piece::Mark(Mark::Colon),
@@ -53,6 +56,7 @@ pub const OP: &[Piece] = &[
     Piece::Mark(Mark::Semicolon),
 ];
 
+// Gen = "generated" <id> "by" {Name ,} ";"
 pub const GEN: &[Piece] = &[
     Piece::Word(Word::Generated),
     Piece::Own(Own::Id),
@@ -61,22 +65,25 @@ pub const GEN: &[Piece] = &[
     Piece::Mark(Mark::Semicolon),
 ];
 
+// Vars = {Id ,} ":" mark
 pub const VARS: &[Piece] = &[
     Piece::Kid(Shape::Listed(Choice::Only(Kind::Id), Mark::Comma)),
     Piece::Mark(Mark::Colon),
     Piece::Kid(Shape::One(Choice::Mark)),
 ];
 
+// Eqn = term "==" term ";"
 pub const EQN: &[Piece] = &[
-    Piece::Kid(Shape::One(Choice::Term)),
+    Piece::Kid(Shape::One(Choice::Expr)),
     Piece::Mark(Mark::DoubleEqual),
-    Piece::Kid(Shape::One(Choice::Term)),
+    Piece::Kid(Shape::One(Choice::Expr)),
     Piece::Mark(Mark::Semicolon),
 ];
 
+// Lemma = <id> ":" term ";"
 pub const LEMMA: &[Piece] = &[
     Piece::Own(Own::Id),
     Piece::Mark(Mark::Colon),
-    Piece::Kid(Shape::One(Choice::Term)),
+    Piece::Kid(Shape::One(Choice::Expr)),
     Piece::Mark(Mark::Semicolon),
 ];

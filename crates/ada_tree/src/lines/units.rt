@@ -3,27 +3,33 @@ use crate::grammar::{Choice, Own, Piece, Shape};
 use crate::kind::Kind;
 use crate::word::{Mark, Word};
 
+// Doc = {File}
 pub const DOC: &[Piece] = &[Piece::Members(Choice::Only(Kind::File))];
 
+// File = {item \n}
 pub const FILE: &[Piece] = &[Piece::Members(Choice::Item)];
 
+// Unit = {clause \n} lib
 pub const UNIT: &[Piece] = &[
     Piece::Kid(Shape::Any(Choice::Clause)),
     Piece::Kid(Shape::One(Choice::Lib)),
 ];
 
+// With = "with" {Name ,} ";"
 pub const WITH: &[Piece] = &[
     Piece::Word(Word::With),
     Piece::Kid(Shape::Listed(Choice::Only(Kind::Name), Mark::Comma)),
     Piece::Mark(Mark::Semicolon),
 ];
 
+// Use = "use" {Name ,} ";"
 pub const USE: &[Piece] = &[
     Piece::Word(Word::Use),
     Piece::Kid(Shape::Listed(Choice::Only(Kind::Name), Mark::Comma)),
     Piece::Mark(Mark::Semicolon),
 ];
 
+// Pack = "package" <id> "is" \> {decl \n} \< [ "private" \> {decl \n} \< ] "end" [<id>] ";"
 pub const PACK: &[Piece] = &[
     Piece::Word(Word::Package),
     Piece::Own(Own::Id),
@@ -42,6 +48,7 @@ pub const PACK: &[Piece] = &[
     Piece::Mark(Mark::Semicolon),
 ];
 
+// Body = "package" "body" <id> "is" \> {decl \n} \< "end" [<id>] ";"
 pub const BODY: &[Piece] = &[
     Piece::Word(Word::Package),
     Piece::Word(Word::Body),
@@ -55,6 +62,7 @@ pub const BODY: &[Piece] = &[
     Piece::Mark(Mark::Semicolon),
 ];
 
+// SubDecl = spec ";" [ Where ]
 pub const SUB_DECL: &[Piece] = &[
     Piece::Kid(Shape::One(Choice::Spec)),
     Piece::Mark(Mark::Semicolon),
@@ -63,6 +71,7 @@ pub const SUB_DECL: &[Piece] = &[
     Piece::End,
 ];
 
+// SubBody = spec [ Where ] "is" \> {decl \n} \< "begin" \> Seq \< "end" [<id>] ";"
 pub const SUB_BODY: &[Piece] = &[
     Piece::Kid(Shape::One(Choice::Spec)),
     Piece::Option,
@@ -81,6 +90,7 @@ pub const SUB_BODY: &[Piece] = &[
     Piece::Mark(Mark::Semicolon),
 ];
 
+// Proc = "procedure" <id> [ Formals ]
 pub const PROC: &[Piece] = &[
     Piece::Word(Word::Procedure),
     Piece::Own(Own::Id),
@@ -89,6 +99,7 @@ pub const PROC: &[Piece] = &[
     Piece::End,
 ];
 
+// Func = "function" <id> [ Formals ] "return" mark
 pub const FUNC: &[Piece] = &[
     Piece::Word(Word::Function),
     Piece::Own(Own::Id),
@@ -99,12 +110,14 @@ pub const FUNC: &[Piece] = &[
     Piece::Kid(Shape::One(Choice::Mark)),
 ];
 
+// Formals = "(" {Formal ;} ")"
 pub const FORMALS: &[Piece] = &[
     Piece::Mark(Mark::Open),
     Piece::Kid(Shape::Listed(Choice::Only(Kind::Formal), Mark::Semicolon)),
     Piece::Mark(Mark::Close),
 ];
 
+// Formal = {Id ,} ":" <mode> mark
 pub const FORMAL: &[Piece] = &[
     Piece::Kid(Shape::Listed(Choice::Only(Kind::Id), Mark::Comma)),
     Piece::Mark(Mark::Colon),
@@ -112,6 +125,8 @@ pub const FORMAL: &[Piece] = &[
     Piece::Kid(Shape::One(Choice::Mark)),
 ];
 
+// Id = <id>
 pub const ID: &[Piece] = &[Piece::Own(Own::Id)];
 
+// Name = <id>
 pub const NAME: &[Piece] = &[Piece::Own(Own::Id)];

@@ -1,6 +1,9 @@
 -- What telling tokens apart asks of the places and lines of the grammar, tested on each of them.
 use Rattle.std.proofs.Common.{◌≡◌, ℕ, List, [], ◌∷◌, refl, sym, ◌∙◌, ap, Bool, true, false, not, ◌&&◌, ◌||◌, Option, Some, None, if◌then◌else◌}
+use Rattle.std.specs.Prelude.{IfSome}
+use Rattle.std.specs.Option.{option_map_or}
 use Rattle.std.specs.List.{list_all}
+use denote.Enum.Bare.{sameb}
 use Rattle.ada_tree.specs.declared.kind.Kind.{Kind}
 use Rattle.ada_tree.specs.declared.kind.Kind.TheVariants as kind
 use Rattle.ada_tree.specs.declared.word.Mark.{Mark}
@@ -11,17 +14,17 @@ use Rattle.ada_tree.specs.declared.grammar.Shape.{Shape}
 use Rattle.ada_tree.specs.declared.grammar.Shape.TheVariants.{One, Any, Many, Listed, MaybeListed, ForAll}
 use Rattle.ada_tree.specs.declared.grammar.Piece.{Piece}
 use Rattle.ada_tree.specs.declared.grammar.Piece.TheVariants.{Word, Mark as its_mark, Own, Kid, Members, Arguments, Option as Optional, Shown, End, Indent, Outdent, Glue, NoteOn, NoteOff}
-use Rattle.ada_tree.specs.declared.operator.Operator.{Operator}
-use Rattle.ada_tree.specs.declared.operator.Operator.TheVariants as op
-use Rattle.ada_tree.specs.declared.operator.Operands.{Operands}
-use Rattle.ada_tree.specs.declared.operator.Operands.TheVariants as operands
+use Rattle.ada_tree.specs.declared.operator.OperatorEntry.{OperatorEntry}
 use Rattle.ada_tree.specs.declared.operator.Level.{Level}
-use Rattle.ada_tree.specs.Kinds.{is_among}
-use Rattle.ada_tree.specs.Operators.{operator_entry, operator_of}
+use Rattle.ada_tree.specs.declared.operator.Level.TheVariants as level
+use Rattle.ada_tree.specs.contracts.operator.Level as level_row
+use Rattle.ada_tree.specs.Kinds.{is_kind, is_among}
+use Rattle.ada_tree.specs.Operators.{operator_line, entry_of}
 use Rattle.ada_tree.specs.Choices.{kinds, expression_kinds, floor, binds, is_coefficient, is_only, stands, comments_of}
 use Rattle.ada_tree.specs.Tokens.{a_word, a_mark}
-use Rattle.ada_tree.specs.Lines.{line, operator_line, unary_line}
+use Rattle.ada_tree.specs.Lines.{line, line_by_operator, unary_line}
 use Rattle.ada_tree.specs.Spelling.{after_end, starts_with_comments, ends_with_comments, keeps_comments}
+use Rattle.ada_tree.proofs.Found.{entry_passes}
 use Rattle.ada_tree.proofs.round_trip.Places.{same_kind, all_among, both}
 use Rattle.ada_tree.proofs.round_trip.Lines.{has_kid, has_lists}
 use Rattle.ada_tree.proofs.round_trip.OpenedItems.{one_of}
@@ -61,14 +64,14 @@ noted_kinds note _ h = h
 
 pub noted_standing : (note : Bool) (place : Choice) (k : Kind) (text : List ℕ) → is_noted_place note place ≡ true → stands note place k text ≡ true → is_noted note k ≡ true
 noted_standing note place k text n h =
-    one_of (is_only place k || is_among k (kinds place) || is_coefficient place k text) _ h
-    (λ e. one_of (is_only place k || is_among k (kinds place)) _ e
-    (λ f. one_of (is_only place k) _ f (at_only place n) (all_among (is_noted note) (kinds place) (noted_kinds note place n) k))
+    one_of (is_only note place k text || is_among k (kinds place) || is_coefficient place k text) _ h
+    (λ e. one_of (is_only note place k text || is_among k (kinds place)) _ e
+    (λ f. one_of (is_only note place k text) _ f (at_only place n) (all_among (is_noted note) (kinds place) (noted_kinds note place n) k))
     (at_coefficient place))
     (bound (floor place))
   where
-    at_only : (place : Choice) → is_noted_place note place ≡ true → is_only place k ≡ true → is_noted note k ≡ true
-    at_only (choice.Only wanted) n e = ap (is_noted note) (sym (same_kind wanted k e)) ∙ (both n).0
+    at_only : (place : Choice) → is_noted_place note place ≡ true → is_only note place k text ≡ true → is_noted note k ≡ true
+    at_only (choice.Only wanted) n e = ap (is_noted note) (sym (same_kind wanted k (both e).0)) ∙ (both n).0
     at_only _ n e = absurd cc
 
     at_coefficient : (place : Choice) → is_coefficient place k text ≡ true → is_noted note k ≡ true
@@ -82,7 +85,7 @@ noted_standing note place k text n h =
 -- the places that only operands stand at: they begin so that a sign may stand before them without a blank
 abbrev pub needs : Choice → Front
 needs (choice.Operand l) = starting
-needs choice.Number = starting
+needs (choice.Only kind.Int) = starting
 needs _ = usual
 
 abbrev pub is_apart_list : Bool → Choice → Bool
@@ -154,36 +157,39 @@ apart_skipped outer how front now (_ ∷ pieces) = apart_skipped outer how front
 
 -- ---- the written table
 
-abbrev use_of_operands : Operands → Use
-use_of_operands (operands.Sign l) = sign
-use_of_operands operands.Terms = named
-use_of_operands _ = between
+-- by what its entry says of an operator
+abbrev pub use_of_entry : OperatorEntry → Use
+use_of_entry entry = if is_kind entry.kind kind.Make then named else (if sameb level_row.the_type entry.level level.Signed then sign else between)
 
-abbrev pub use_of : Option Operator → Use
-use_of None = no_operator
-use_of (Some o) = use_of_operands (operator_entry o).operands
+abbrev pub use_of : Option OperatorEntry → Use
+use_of entry = option_map_or use_of_entry entry no_operator
 
 abbrev pub use_at : Choice → Kind → List ℕ → Use
-use_at place kind.Binary text = use_of (operator_of kind.Binary text)
+use_at place kind.Binary text = use_of (entry_of kind.Binary text)
 use_at choice.Coefficient kind.Unary text = sign
-use_at place kind.Unary text = use_of (operator_of kind.Unary text)
-use_at place kind.Member text = use_of (operator_of kind.Member text)
-use_at place kind.Make text = use_of (operator_of kind.Make text)
+use_at place kind.Unary text = use_of (entry_of kind.Unary text)
+use_at place kind.Member text = use_of (entry_of kind.Member text)
+use_at place kind.Make text = use_of (entry_of kind.Make text)
 use_at place _ text = no_operator
 
-apart_operator : (note : Bool) (o : Option Operator) → is_apart_line note (use_of o) usual false note (operator_line o) ≡ true
-apart_operator true None = refl
-apart_operator false None = refl
-apart_operator true (Some op.And) = refl
-apart_operator true (Some _) = refl
-apart_operator false (Some op.And) = refl
-apart_operator false (Some _) = refl
+-- a line that begins after this front can be told apart with the operator of this entry
+abbrev pub is_apart_after : Bool → Front → OperatorEntry → Bool
+is_apart_after note front entry = is_apart_line note (use_of_entry entry) front false note (operator_line entry.operator)
+
+pub apart_entry : (note : Bool) (front : Front) → is_apart_line note no_operator front false note [] ≡ true → (e : Option OperatorEntry) → IfSome e (λ entry. is_apart_after note front entry ≡ true)
+    → is_apart_line note (use_of e) front false note (option_map_or (λ entry. operator_line entry.operator) e []) ≡ true
+apart_entry note front empty None h = empty
+apart_entry note front empty (Some entry) h = h
+
+apart_operator : (note : Bool) (k : Kind) (text : List ℕ) → is_apart_line note (use_of (entry_of k text)) usual false note (line_by_operator k text) ≡ true
+apart_operator true k text = apart_entry true usual refl (entry_of k text) (entry_passes (is_apart_after true usual) refl k text)
+apart_operator false k text = apart_entry false usual refl (entry_of k text) (entry_passes (is_apart_after false usual) refl k text)
 
 apart_unary : (note : Bool) (place : Choice) (text : List ℕ) → is_apart_line note (use_at place kind.Unary text) usual false note (unary_line place text) ≡ true
 apart_unary true choice.Coefficient text = refl
 apart_unary false choice.Coefficient text = refl
-apart_unary note choice.Item text = apart_operator note (operator_of kind.Unary text)
-apart_unary note _ text = apart_operator note (operator_of kind.Unary text)
+apart_unary note choice.Item text = apart_operator note kind.Unary text
+apart_unary note _ text = apart_operator note kind.Unary text
 
 apart_select : (note : Bool) (place : Choice) (text : List ℕ) → is_apart_line note no_operator usual false note (line place kind.Select text) ≡ true
 apart_select true choice.Mark text = refl
@@ -196,10 +202,10 @@ apart_select false choice.LemmaName text = refl
 apart_select false _ text = refl
 
 pub apart_line : (note : Bool) (place : Choice) (k : Kind) (text : List ℕ) → is_noted note k ≡ true → is_apart_line note (use_at place k text) usual false note (line place k text) ≡ true
-apart_line note place kind.Binary text h = apart_operator note (operator_of kind.Binary text)
+apart_line note place kind.Binary text h = apart_operator note kind.Binary text
 apart_line note place kind.Unary text h = apart_unary note place text
-apart_line note place kind.Member text h = apart_operator note (operator_of kind.Member text)
-apart_line note place kind.Make text h = apart_operator note (operator_of kind.Make text)
+apart_line note place kind.Member text h = apart_operator note kind.Member text
+apart_line note place kind.Make text h = apart_operator note kind.Make text
 apart_line note place kind.Select text h = apart_select note place text
 apart_line true place kind.Doc text h = absurd cc
 apart_line false place kind.Doc text h = absurd cc

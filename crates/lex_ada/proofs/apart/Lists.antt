@@ -105,15 +105,15 @@ noted_anywhere true place h = (both h).0
 noted_anywhere false place h = (both h).1
 
 argument_noted : (a : Argument) (place : Choice) → argument_place a ≡ Some place → is_noted_anywhere place ≡ true
-argument_noted argument.Number place h = let e : choice.Number ≡ place = cc in subst (λ p. is_noted_anywhere p ≡ true) e refl
+argument_noted argument.Number place h = let e : (choice.Only kind.Int) ≡ place = cc in subst (λ p. is_noted_anywhere p ≡ true) e refl
 argument_noted argument.Name place h = let e : choice.Only kind.Name ≡ place = cc in subst (λ p. is_noted_anywhere p ≡ true) e refl
 argument_noted argument.LemmaName place h = let e : choice.LemmaName ≡ place = cc in subst (λ p. is_noted_anywhere p ≡ true) e refl
-argument_noted argument.Term place h = let e : choice.Term ≡ place = cc in subst (λ p. is_noted_anywhere p ≡ true) e refl
+argument_noted argument.Term place h = let e : choice.Expr ≡ place = cc in subst (λ p. is_noted_anywhere p ≡ true) e refl
 argument_noted _ place h = absurd cc
 
 list_noted : (a : Argument) (place : Choice) → listed_place a ≡ Some place → is_noted_anywhere place ≡ true
 list_noted argument.Names place h = let e : choice.Only kind.Name ≡ place = cc in subst (λ p. is_noted_anywhere p ≡ true) e refl
-list_noted argument.Terms place h = let e : choice.Term ≡ place = cc in subst (λ p. is_noted_anywhere p ≡ true) e refl
+list_noted argument.Terms place h = let e : choice.Expr ≡ place = cc in subst (λ p. is_noted_anywhere p ≡ true) e refl
 list_noted argument.Coefficients place h = let e : choice.Coefficient ≡ place = cc in subst (λ p. is_noted_anywhere p ≡ true) e refl
 list_noted _ place h = absurd cc
 
@@ -122,9 +122,9 @@ one_argument {note = note} {a = a} {others = others} {place = place} {node = nod
   apart = rw (argument_items a others place node nodes p) (both_apart (node_usual one (noted_anywhere note place (argument_noted a place p))) more.apart);
 }
 
-pub number_after_in : {note : Bool} {node : Node} → IsNodeApart note choice.Number node → AreArgumentsApart note (argument.InNumber ∷ []) (node ∷ [])
+pub number_after_in : {note : Bool} {node : Node} → IsNodeApart note (choice.Only kind.Int) node → AreArgumentsApart note (argument.InNumber ∷ []) (node ∷ [])
 number_after_in {note = note} one = record {
-  apart = append_apart {middle = usual} {need = usual} {front = put (a_word word.In) ∷ []} refl (token_apart (a_word word.In) refl refl) (both_apart (node_usual one (noted_anywhere note choice.Number refl)) (nothing_apart refl));
+  apart = append_apart {middle = usual} {need = usual} {front = put (a_word word.In) ∷ []} refl (token_apart (a_word word.In) refl refl) (both_apart (node_usual one (noted_anywhere note (choice.Only kind.Int) refl)) (nothing_apart refl));
 }
 
 pub no_number_after_in : (note : Bool) → AreArgumentsApart note (argument.InNumber ∷ []) []

@@ -1,28 +1,30 @@
 -- Operators by where a node stands, and operands that begin as they must after a sign.
-use Rattle.std.proofs.Common.{◌≡◌, ℕ, List, [], ◌∷◌, refl, sym, ◌∙◌, ap, subst, Bool, true, false, not, ◌&&◌, ◌||◌, Option, Some, None, if◌then◌else◌}
+use Rattle.std.proofs.Common.{◌≡◌, ℕ, List, [], ◌∷◌, refl, sym, ◌∙◌, ap, subst, Bool, true, false, not, ◌&&◌, ◌||◌, Option, Some, None}
 use Rattle.std.proofs.lemmas.Bool.{not-true}
-use Rattle.std.specs.Prelude.{is_some, find, cond, bytes_eq}
+use Rattle.std.specs.Prelude.{is_some, bytes_eq, codes, IfSome}
+use Rattle.std.specs.Option.{option_map_or}
 use Rattle.std.specs.List.{list_all}
 use Rattle.std.proofs.lemmas.Slice.Eq.{bytes_eq-Decides}
 use Rattle.ada_tree.specs.declared.kind.Kind.{Kind}
 use Rattle.ada_tree.specs.declared.kind.Kind.TheVariants as kind
 use Rattle.ada_tree.specs.declared.grammar.Choice.{Choice}
 use Rattle.ada_tree.specs.declared.grammar.Choice.TheVariants as choice
-use Rattle.ada_tree.specs.declared.operator.Operator.{Operator}
-use Rattle.ada_tree.specs.declared.operator.Operator.TheVariants as op
+use Rattle.ada_tree.specs.declared.operator.OperatorEntry.{OperatorEntry}
+use Rattle.ada_tree.specs.declared.operator.TheConstants.{OPERATORS}
 use Rattle.ada_tree.specs.declared.operator.Level.{Level}
 use Rattle.ada_tree.specs.declared.operator.Level.TheVariants as level
 use Rattle.ada_tree.specs.Kinds.{is_kind, is_among}
-use Rattle.ada_tree.specs.Operators.{operator_entry, operator_of, operator_text, operators}
-use Rattle.ada_tree.specs.Choices.{kinds, expression_kinds, floor, binds, is_coefficient, is_only, stands, opens, has_side, level_on_side, level_of}
+use Rattle.ada_tree.specs.Operators.{OperatorRow, operator_line, entry_of}
+use Rattle.ada_tree.specs.Choices.{kinds, expression_kinds, floor, binds, is_coefficient, is_only, stands, opens, has_side, has_operator, on_side}
 use Rattle.ada_tree.specs.Texts.{symbol_items}
-use Rattle.ada_tree.specs.Lines.{line, operator_line}
+use Rattle.ada_tree.specs.Lines.{line, line_by_operator}
 use Rattle.ada_tree.specs.Canonical.{is_compound, is_wrapped}
+use Rattle.ada_tree.proofs.Found.{entry_found, entry_of_kind_passes}
 use Rattle.ada_tree.proofs.round_trip.Places.{same_kind, all_among, both}
 use Rattle.ada_tree.proofs.round_trip.OpenedItems.{one_of}
 use Rattle.lex_ada.proofs.apart.Fronts.{usual, after_mark, starting}
 use Rattle.lex_ada.proofs.apart.Items.{IsApart, fit_items, fit_apart}
-use Rattle.lex_ada.proofs.apart.Lines.{is_noted_place, noted_standing, apart_line, operator_kinds, needs, Use, before_use, after_use, is_used, use_of, use_at, is_apart_line}
+use Rattle.lex_ada.proofs.apart.Lines.{is_noted_place, noted_standing, apart_line, operator_kinds, needs, Use, before_use, after_use, is_used, use_of_entry, use_of, use_at, is_apart_after, is_apart_line}
 
 -- the operator of a line, where it has one, can be told apart
 abbrev pub Operates : Use → Bool → List ℕ → Type 0
@@ -30,40 +32,30 @@ Operates how note text = is_used how ≡ true → IsApart note note (before_use 
 
 -- ---- an operator that is found
 
-found : {A : Type 0} (p : A → Bool) (xs : List A) (x : A) → find p xs ≡ Some x → p x ≡ true
-found p [] x h = absurd cc
-found p (y ∷ xs) x h = by_test (p y) refl (found p xs x) h
+abbrev fits : Bool → OperatorRow → Bool
+fits note row = not (has_side note row.0.side) || fit_items note (before_use (use_of_entry row.0)) (after_use (use_of_entry row.0)) (symbol_items row.1.now)
+
+all_fit : (note : Bool) → list_all (fits note) OPERATORS ≡ true
+all_fit true = refl
+all_fit false = refl
+
+if_so : (a b : Bool) → a ≡ true → not a || b ≡ true → b ≡ true
+if_so true b e h = h
+if_so false b e h = absurd cc
+
+found_operates : (note : Bool) (k : Kind) (text : List ℕ) → has_operator note k text ≡ true → Operates (use_of (entry_of k text)) note text
+found_operates note k text h =
+    by (entry_of k text) (entry_found k text (fits note) (λ entry. has_side note entry.side ≡ true → Operates (use_of_entry entry) note text) row_operates (all_fit note)) h
   where
-    by_test : (b : Bool) → p y ≡ b → (find p xs ≡ Some x → p x ≡ true) → cond b (Some y) (find p xs) ≡ Some x → p x ≡ true
-    by_test true e later h = let same : y ≡ x = cc in subst (λ z. p z ≡ true) same e
-    by_test false e later h = later h
+    row_operates : (row : OperatorRow) → is_kind row.0.kind k ≡ true → bytes_eq row.1.now text ≡ true → fits note row ≡ true → has_side note row.0.side ≡ true → Operates (use_of_entry row.0) note text
+    row_operates row e t f s u =
+        let same = (bytes_eq-Decides row.1.now text).0 t in
+        subst (λ t. IsApart note note (before_use (use_of_entry row.0)) (after_use (use_of_entry row.0)) (symbol_items t)) same
+        (fit_apart (before_use (use_of_entry row.0)) (symbol_items row.1.now) (if_so (has_side note row.0.side) _ s f))
 
-operator_found : (k : Kind) (text : List ℕ) (o : Operator) → operator_of k text ≡ Some o → is_kind (operator_entry o).kind k && bytes_eq (operator_text o) text ≡ true
-operator_found k text o h = found (λ o. is_kind (operator_entry o).kind k && bytes_eq (operator_text o) text) operators o h
-
-operator_fits : (note : Bool) (o : Operator) → has_side note (operator_entry o).side ≡ true → fit_items note (before_use (use_of (Some o))) (after_use (use_of (Some o))) (symbol_items (operator_text o)) ≡ true
-operator_fits true op.And h = refl
-operator_fits true _ h = refl
-operator_fits false op.Implies h = absurd cc
-operator_fits false op.Iff h = absurd cc
-operator_fits false op.Store h = absurd cc
-operator_fits false op.Update h = absurd cc
-operator_fits false op.Fill h = absurd cc
-operator_fits false op.Make h = absurd cc
-operator_fits false _ h = refl
-
-on_side : (note : Bool) (o : Operator) → is_some (level_on_side note (Some o)) ≡ true → has_side note (operator_entry o).side ≡ true
-on_side note o h = by_test (has_side note (operator_entry o).side) h
-  where
-    by_test : (b : Bool) → is_some (if b then Some (operator_entry o).level else None) ≡ true → b ≡ true
-    by_test true h = refl
-    by_test false h = absurd cc
-
-found_operates : (note : Bool) (k : Kind) (text : List ℕ) (o : Option Operator) → operator_of k text ≡ o → is_some (level_on_side note o) ≡ true → Operates (use_of o) note text
-found_operates note k text None e h u = absurd cc
-found_operates note k text (Some o) e h u =
-    let same = (bytes_eq-Decides (operator_text o) text).0 (both (operator_found k text o e)).1 in
-    subst (λ t. IsApart note note (before_use (use_of (Some o))) (after_use (use_of (Some o))) (symbol_items t)) same (fit_apart (before_use (use_of (Some o))) (symbol_items (operator_text o)) (operator_fits note o (on_side note o h)))
+    by : (e : Option OperatorEntry) → IfSome e (λ entry. has_side note entry.side ≡ true → Operates (use_of_entry entry) note text) → option_map_or (λ entry. has_side note entry.side) e false ≡ true → Operates (use_of e) note text
+    by None f h u = absurd cc
+    by (Some entry) f h u = f h u
 
 -- ---- a node with an operator
 
@@ -76,16 +68,16 @@ clash b t f = absurd cc
 
 -- one that stands somewhere is a coefficient, or has a level
 levelled : {P : Type 0} (note : Bool) (place : Choice) (k : Kind) (text : List ℕ) → is_noted_place note place ≡ true → stands note place k text ≡ true → is_among k operator_kinds ≡ true
-    → (is_coefficient place k text ≡ true → P) → (opens place ≡ true → is_some (level_of note k text) ≡ true → P) → P
+    → (is_coefficient place k text ≡ true → P) → (opens place ≡ true → on_side note k text ≡ true → P) → P
 levelled {P = P} note place k text n h o coefficient level =
-    one_of (is_only place k || is_among k (kinds place) || is_coefficient place k text) _ h
-    (λ e. one_of (is_only place k || is_among k (kinds place)) _ e
-    (λ f. one_of (is_only place k) _ f (at_only place n) (λ a. clash (is_among k operator_kinds) o (not-true _ (all_among (λ k. not (is_among k operator_kinds)) (kinds place) (no_operators place) k a))))
+    one_of (is_only note place k text || is_among k (kinds place) || is_coefficient place k text) _ h
+    (λ e. one_of (is_only note place k text || is_among k (kinds place)) _ e
+    (λ f. one_of (is_only note place k text) _ f (at_only place n) (λ a. clash (is_among k operator_kinds) o (not-true _ (all_among (λ k. not (is_among k operator_kinds)) (kinds place) (no_operators place) k a))))
     coefficient)
     (bound (floor place) refl)
   where
-    at_only : (place : Choice) → is_noted_place note place ≡ true → is_only place k ≡ true → P
-    at_only (choice.Only wanted) n e = clash (is_among wanted operator_kinds) (ap (λ k. is_among k operator_kinds) (same_kind wanted k e) ∙ o) (not-true (is_among wanted operator_kinds) (both n).1)
+    at_only : (place : Choice) → is_noted_place note place ≡ true → is_only note place k text ≡ true → P
+    at_only (choice.Only wanted) n e = clash (is_among wanted operator_kinds) (ap (λ k. is_among k operator_kinds) (same_kind wanted k (both e).0) ∙ o) (not-true (is_among wanted operator_kinds) (both n).1)
     at_only _ n e = absurd cc
 
     bound : (least : Option Level) → floor place ≡ least → binds note place least k text ≡ true → P
@@ -96,19 +88,19 @@ no_coefficient : (place : Choice) (k : Kind) (text : List ℕ) → is_kind k kin
 no_coefficient choice.Coefficient k text n = rw n refl
 no_coefficient _ k text n = refl
 
-minus_fits : (note : Bool) → fit_items note usual after_mark (symbol_items (45 ∷ [])) ≡ true
+minus_fits : (note : Bool) → fit_items note usual after_mark (symbol_items (codes "-")) ≡ true
 minus_fits true = refl
 minus_fits false = refl
 
-minus_operates : (note : Bool) (text : List ℕ) → bytes_eq text (45 ∷ []) ≡ true → IsApart note note usual after_mark (symbol_items text)
-minus_operates note text e = fit_apart usual (symbol_items text) (ap (λ t. fit_items note usual after_mark (symbol_items t)) ((bytes_eq-Decides text (45 ∷ [])).0 e) ∙ minus_fits note)
+minus_operates : (note : Bool) (text : List ℕ) → bytes_eq text (codes "-") ≡ true → IsApart note note usual after_mark (symbol_items text)
+minus_operates note text e = fit_apart usual (symbol_items text) (ap (λ t. fit_items note usual after_mark (symbol_items t)) ((bytes_eq-Decides text (codes "-")).0 e) ∙ minus_fits note)
 
 as_coefficient : (note : Bool) (place : Choice) (text : List ℕ) → is_coefficient place kind.Unary text ≡ true → Operates (use_at place kind.Unary text) note text
 as_coefficient note choice.Coefficient text h u = minus_operates note text h
 as_coefficient note choice.Item text h u = absurd cc
 as_coefficient note _ text h u = absurd cc
 
-unary_use : (place : Choice) (text : List ℕ) → opens place ≡ true → use_at place kind.Unary text ≡ use_of (operator_of kind.Unary text)
+unary_use : (place : Choice) (text : List ℕ) → opens place ≡ true → use_at place kind.Unary text ≡ use_of (entry_of kind.Unary text)
 unary_use choice.Coefficient text o = absurd cc
 unary_use choice.Item text o = refl
 unary_use _ text o = refl
@@ -121,14 +113,14 @@ same_use place _ text o = refl
 -- the operator of a node that stands somewhere can be told apart
 pub operates : (note : Bool) (place : Choice) (k : Kind) (text : List ℕ) → is_noted_place note place ≡ true → stands note place k text ≡ true → Operates (use_at place k text) note text
 operates note place kind.Binary text n h =
-    levelled note place kind.Binary text n h refl (λ c. clash (is_coefficient place kind.Binary text) c (no_coefficient place kind.Binary text refl)) (λ o s. found_operates note kind.Binary text (operator_of kind.Binary text) refl s)
+    levelled note place kind.Binary text n h refl (λ c. clash (is_coefficient place kind.Binary text) c (no_coefficient place kind.Binary text refl)) (λ o s. found_operates note kind.Binary text s)
 operates note place kind.Member text n h =
-    levelled note place kind.Member text n h refl (λ c. clash (is_coefficient place kind.Member text) c (no_coefficient place kind.Member text refl)) (λ o s. found_operates note kind.Member text (operator_of kind.Member text) refl s)
+    levelled note place kind.Member text n h refl (λ c. clash (is_coefficient place kind.Member text) c (no_coefficient place kind.Member text refl)) (λ o s. found_operates note kind.Member text s)
 operates note place kind.Make text n h =
-    levelled note place kind.Make text n h refl (λ c. clash (is_coefficient place kind.Make text) c (no_coefficient place kind.Make text refl)) (λ o s. found_operates note kind.Make text (operator_of kind.Make text) refl s)
+    levelled note place kind.Make text n h refl (λ c. clash (is_coefficient place kind.Make text) c (no_coefficient place kind.Make text refl)) (λ o s. found_operates note kind.Make text s)
 operates note place kind.Unary text n h =
     levelled note place kind.Unary text n h refl (as_coefficient note place text)
-    (λ o s. subst (λ how. Operates how note text) (sym (unary_use place text o)) (found_operates note kind.Unary text (operator_of kind.Unary text) refl s))
+    (λ o s. subst (λ how. Operates how note text) (sym (unary_use place text o)) (found_operates note kind.Unary text s))
 operates note place kind.Doc text n h = λ u. absurd cc
 operates note place _ text n h = λ u. absurd cc
 
@@ -146,23 +138,20 @@ bare_expressions false = refl
 abbrev Starts : Bool → Choice → Kind → List ℕ → Type 0
 Starts note place k text = is_apart_line note (use_at place k text) starting false note (line place k text) ≡ true
 
-make_starts : (note : Bool) (o : Operator) → is_kind (operator_entry o).kind kind.Make ≡ true → is_apart_line note (use_of (Some o)) starting false note (operator_line (Some o)) ≡ true
-make_starts true op.Store h = refl
-make_starts true op.Update h = refl
-make_starts true op.Fill h = refl
-make_starts true op.Make h = refl
-make_starts false op.Store h = refl
-make_starts false op.Update h = refl
-make_starts false op.Fill h = refl
-make_starts false op.Make h = refl
-make_starts note _ h = absurd cc
+make_starts : (note : Bool) → list_all (λ (row : OperatorRow). not (is_kind row.0.kind kind.Make) || is_apart_after note starting row.0) OPERATORS ≡ true
+make_starts true = refl
+make_starts false = refl
 
-found_starts : (note : Bool) (text : List ℕ) (o : Option Operator) → operator_of kind.Make text ≡ o → is_some (level_on_side note o) ≡ true → is_apart_line note (use_of o) starting false note (operator_line o) ≡ true
-found_starts note text None e h = absurd cc
-found_starts note text (Some o) e h = make_starts note o (both (operator_found kind.Make text o e)).0
+found_starts : (note : Bool) (text : List ℕ) → has_operator note kind.Make text ≡ true → is_apart_line note (use_of (entry_of kind.Make text)) starting false note (line_by_operator kind.Make text) ≡ true
+found_starts note text h = by (entry_of kind.Make text) (entry_of_kind_passes kind.Make (is_apart_after note starting) (make_starts note) text) h
+  where
+    by : (e : Option OperatorEntry) → IfSome e (λ entry. is_apart_after note starting entry ≡ true) → option_map_or (λ entry. has_side note entry.side) e false ≡ true
+        → is_apart_line note (use_of e) starting false note (option_map_or (λ entry. operator_line entry.operator) e []) ≡ true
+    by None f h = absurd cc
+    by (Some entry) f h = f
 
-operand_starts : (note : Bool) (l : Level) (k : Kind) (text : List ℕ) → is_among k starting_kinds ≡ true → is_some (level_of note k text) ≡ true → Starts note (choice.Operand l) k text
-operand_starts note l kind.Make text s h = found_starts note text (operator_of kind.Make text) refl h
+operand_starts : (note : Bool) (l : Level) (k : Kind) (text : List ℕ) → is_among k starting_kinds ≡ true → on_side note k text ≡ true → Starts note (choice.Operand l) k text
+operand_starts note l kind.Make text s h = found_starts note text h
 operand_starts true l kind.Doc text s h = absurd cc
 operand_starts false l kind.Doc text s h = absurd cc
 operand_starts true l kind.Binary text s h = absurd cc
@@ -174,10 +163,14 @@ operand_starts false l kind.Member text s h = absurd cc
 operand_starts true l _ text s h = cc
 operand_starts false l _ text s h = cc
 
-number_starts : (note : Bool) (k : Kind) (text : List ℕ) → is_among k (kind.Int ∷ []) ≡ true → Starts note choice.Number k text
-number_starts note k text h = subst (λ k. Starts note choice.Number k text) (sym (same_kind k kind.Int (one_of (is_kind k kind.Int) false h (λ e. e) (λ e. absurd cc)))) (by_note note)
+left_of_three : (a : Bool) → a || false || false || false ≡ true → a ≡ true
+left_of_three true h = refl
+left_of_three false h = absurd cc
+
+number_starts : (note : Bool) (k : Kind) (text : List ℕ) → stands note (choice.Only kind.Int) k text ≡ true → Starts note (choice.Only kind.Int) k text
+number_starts note k text h = subst (λ k. Starts note (choice.Only kind.Int) k text) (same_kind kind.Int k (both (left_of_three (is_kind kind.Int k && on_side note k text) h)).0) (by_note note)
   where
-    by_note : (note : Bool) → Starts note choice.Number kind.Int text
+    by_note : (note : Bool) → Starts note (choice.Only kind.Int) kind.Int text
     by_note true = refl
     by_note false = refl
 
@@ -192,16 +185,13 @@ not_compound _ k text w = w
 bare_standing : (note : Bool) (l : Level) (k : Kind) (text : List ℕ) → is_wrapped (choice.Operand l) k text ≡ false → stands note (choice.Operand l) k text ≡ true → is_among k starting_kinds ≡ true
 bare_standing note l k text w h = one_of (is_compound k) _ (all_among (λ k. is_compound k || is_among k starting_kinds) (expression_kinds note) (bare_expressions note) k (both (both h).0).0) (λ e. clash (is_compound k) e (not_compound l k text w)) (λ e. e)
 
-left_of_three : (a : Bool) → a || false || false ≡ true → a ≡ true
-left_of_three true h = refl
-left_of_three false h = absurd cc
-
 -- the line of a node that is written without parentheses, wherever it stands
 pub bare_line : (note : Bool) (place : Choice) (k : Kind) (text : List ℕ) → is_noted_place note place ≡ true → is_wrapped place k text ≡ false → stands note place k text ≡ true
     → is_apart_line note (use_at place k text) (needs place) false note (line place k text) ≡ true
 bare_line note (choice.Operand l) k text n w h = operand_starts note l k text (bare_standing note l k text w h) (both (both h).0).1
-bare_line note choice.Number k text n w h = number_starts note k text (left_of_three _ h)
-bare_line note choice.Item k text n w h = apart_line note choice.Item k text (noted_standing note choice.Item k text n h)
+bare_line note (choice.Only kind.Int) k text n w h = number_starts note k text h
+bare_line note (choice.Only kind.Doc) k text n w h = apart_line note (choice.Only kind.Doc) k text (noted_standing note (choice.Only kind.Doc) k text n h)
 bare_line note (choice.Only wanted) k text n w h = apart_line note (choice.Only wanted) k text (noted_standing note (choice.Only wanted) k text n h)
+bare_line note choice.Item k text n w h = apart_line note choice.Item k text (noted_standing note choice.Item k text n h)
 bare_line note (choice.Chain operator) k text n w h = apart_line note (choice.Chain operator) k text (noted_standing note (choice.Chain operator) k text n h)
 bare_line note place k text n w h = apart_line note place k text (noted_standing note place k text n h)

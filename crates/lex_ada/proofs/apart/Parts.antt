@@ -3,6 +3,7 @@ use Rattle.std.proofs.Common.{◌≡◌, ℕ, List, [], ◌∷◌, refl, sym, �
 use Rattle.ada_tree.specs.declared.kind.Kind.{Kind}
 use Rattle.ada_tree.specs.declared.word.Mark.{Mark}
 use Rattle.ada_tree.specs.declared.word.Mark.TheVariants as mark
+use Rattle.ada_tree.specs.declared.kind.Kind.TheVariants as kind
 use Rattle.ada_tree.specs.declared.grammar.Choice.{Choice}
 use Rattle.ada_tree.specs.declared.grammar.Choice.TheVariants as choice
 use Rattle.ada_tree.specs.declared.grammar.Shape.{Shape}
@@ -55,7 +56,8 @@ pub record AreArgumentsApart (note : Bool) (line : List Argument) (nodes : List 
 -- ---- parentheses
 
 pub from_needs : (place : Choice) → gives usual (needs place) ≡ true
-from_needs choice.Item = refl
+from_needs (choice.Only kind.Int) = refl
+from_needs (choice.Only _) = refl
 from_needs _ = refl
 
 -- they may stand wherever an opening one may
@@ -65,7 +67,8 @@ enclosed {note = note} t i =
     (append_apart {middle = usual} {need = linking} refl i (widen {from = linking} {need = linking} {have = after_mark} {to = usual} refl refl (token_apart (a_mark mark.Close) refl refl)))
 
 needs_open : (place : Choice) → takes (needs place) (a_mark mark.Open) ≡ true
-needs_open choice.Item = refl
+needs_open (choice.Only kind.Int) = refl
+needs_open (choice.Only _) = refl
 needs_open _ = refl
 
 -- ---- a node, from its line

@@ -5,7 +5,8 @@ use Rattle.std.specs.List.{list_any, prefix_len}
 use Rattle.std.specs.Char.{is_ascii_alphabetic, is_ascii_digit}
 use Rattle.std.proofs.lemmas.Bool.{and_parts, and_from, cond_both, cond-true, cond-false, eqb-true}
 use Rattle.std.proofs.lemmas.List.{take_at}
-use Rattle.ada_tree.specs.Words.{marks, mark_text}
+use Rattle.ada_tree.specs.declared.word.TheConstants.{MARKS}
+use Rattle.ada_tree.specs.Words.{mark_text}
 use Rattle.ada_tree.specs.Texts.{begins, is_blank, ends_line}
 use Rattle.lex_ada.specs.declared.token.TokenKind.{TokenKind}
 use Rattle.lex_ada.specs.declared.token.TokenKind.TheVariants as kind
@@ -59,7 +60,7 @@ token_cut note kind.Number (b ∷ run) rest e stops =
     let parts = numeral_run b run e in
     digit_cut note b (run ++ rest) parts.0 ∙ ap (λ (r : Result ℕ ℕ). number_piece (longer r)) (number_runs false 1 run rest parts.1 stops)
 token_cut note kind.Mark spelling rest e stops =
-    let is = found_is mark_text marks spelling e in
+    let is = found_is (λ row. row.0) (λ row. row.1.now) mark_text MARKS refl spelling e in
     subst (λ s. cut_at note (s ++ rest) ≡ Piece kind.Mark (length s)) is.1 (mark_is note is.0 rest (subst (λ s. begins (goes_on kind.Mark s) rest ≡ false) (sym is.1) stops))
 token_cut note kind.Comment spelling rest e stops = absurd (cc)
 

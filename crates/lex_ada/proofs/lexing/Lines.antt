@@ -1,10 +1,8 @@
 -- The ends of lines in a text that is cut.
-use Rattle.std.proofs.Common.{◌≡◌, ℕ, suc, ◌+◌, List, [], ◌∷◌, ◌++◌, Bool, true, false, cond, refl, ◌∙◌, ap, subst, arith}
+use Rattle.std.proofs.Common.{not, ◌≡◌, ℕ, suc, ◌+◌, List, [], ◌∷◌, ◌++◌, Bool, true, false, cond, refl, ◌∙◌, ap, arith}
 use Rattle.std.specs.List.{list_any, list_all}
-use Rattle.std.proofs.lemmas.Bool.{and_parts, or_parts, or_from, and_left, not_from_false, and_from}
-use Rattle.ada_tree.specs.declared.word.Mark.{Mark}
-use Rattle.ada_tree.specs.declared.word.Mark.TheVariants as mark
-use Rattle.ada_tree.specs.Words.{marks, mark_text}
+use Rattle.std.proofs.lemmas.Bool.{not-true, and_parts, or_parts, or_from, and_left, not_from_false, and_from}
+use Rattle.ada_tree.specs.declared.word.TheConstants.{MARKS}
 use Rattle.ada_tree.specs.Texts.{ends_line}
 use Rattle.lex_ada.specs.declared.token.TokenKind.{TokenKind}
 use Rattle.lex_ada.specs.declared.token.TokenKind.TheVariants as kind
@@ -14,7 +12,7 @@ use Rattle.lex_ada.specs.Faults.{line_ends}
 use Rattle.lex_ada.proofs.lexing.Letters.{blank_in_line, digit_byte_of_word}
 use Rattle.lex_ada.proofs.lexing.Heads.{word_one_line, list_all-weaker}
 use Rattle.lex_ada.proofs.lexing.Runs.{is_digit_byte}
-use Rattle.lex_ada.proofs.lexing.Spelled.{found_is, is_short, word_spelled, name_spelled}
+use Rattle.lex_ada.proofs.lexing.Spelled.{found_passes, is_short, word_spelled, name_spelled}
 use Rattle.lex_ada.proofs.lexing.Fronts.{Front, a_blank, an_end, an_end_of_two, a_note, a_comment, a_token, line_after}
 
 -- a text in one line, before another
@@ -24,41 +22,7 @@ lines-skip (b ∷ piece) rest e =
     let parts = or_parts (ends_line b) (list_any ends_line piece) e in
     ap (λ (t : Bool). cond t 1 0 + line_ends (piece ++ rest)) (and_left (ends_line b) _ parts.0) ∙ omega (arith, lines-skip piece rest parts.1)
 
--- no mark has the end of a line
-mark_one_line : (m : Mark) → list_any ends_line (mark_text m) ≡ false
-mark_one_line mark.Ampersand = refl
-mark_one_line mark.Tick = refl
-mark_one_line mark.Open = refl
-mark_one_line mark.Close = refl
-mark_one_line mark.Plus = refl
-mark_one_line mark.Comma = refl
-mark_one_line mark.Semicolon = refl
-mark_one_line mark.Bar = refl
-mark_one_line mark.OpenBracket = refl
-mark_one_line mark.CloseBracket = refl
-mark_one_line mark.AtSign = refl
-mark_one_line mark.Arrow = refl
-mark_one_line mark.Dots = refl
-mark_one_line mark.Becomes = refl
-mark_one_line mark.NotEqual = refl
-mark_one_line mark.LessEqual = refl
-mark_one_line mark.GreaterEqual = refl
-mark_one_line mark.DoubleStar = refl
-mark_one_line mark.LeftLabel = refl
-mark_one_line mark.RightLabel = refl
-mark_one_line mark.Box = refl
-mark_one_line mark.To = refl
-mark_one_line mark.DoubleEqual = refl
-mark_one_line mark.Star = refl
-mark_one_line mark.Dot = refl
-mark_one_line mark.Slash = refl
-mark_one_line mark.Colon = refl
-mark_one_line mark.Less = refl
-mark_one_line mark.Equal = refl
-mark_one_line mark.Greater = refl
-mark_one_line mark.Minus = refl
-
--- nor an identifier
+-- an identifier is in one line
 short_one_line : (text : List ℕ) → is_short text ≡ true → list_any ends_line text ≡ false
 short_one_line text e = word_one_line text (and_parts _ (list_all is_word_byte text) (and_parts _ _ (and_parts _ _ e).0).0).1
 
@@ -67,7 +31,7 @@ pub token_one_line : (note : Bool) (k : TokenKind) (spelling : List ℕ) → spe
 token_one_line note kind.Name spelling e = short_one_line spelling (name_spelled note spelling e).0
 token_one_line note kind.Word spelling e = short_one_line spelling (word_spelled note spelling e).0
 token_one_line note kind.Number spelling e = word_one_line spelling (list_all-weaker is_digit_byte is_word_byte spelling digit_byte_of_word (and_parts _ (list_all is_digit_byte spelling) (and_parts _ _ (and_parts _ _ e).0).0).1)
-token_one_line note kind.Mark spelling e = let is = found_is mark_text marks spelling e in subst (λ s. list_any ends_line s ≡ false) is.1 (mark_one_line is.0)
+token_one_line note kind.Mark spelling e = not-true _ (found_passes (λ row. row.0) (λ row. row.1.now) (λ text. not (list_any ends_line text)) MARKS spelling refl e)
 token_one_line note kind.Comment spelling e = absurd (cc)
 
 -- a line that ends counts

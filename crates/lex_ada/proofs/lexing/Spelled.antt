@@ -1,13 +1,15 @@
 -- What words, names and numbers are made of, and how far each goes in a text.
 use Rattle.std.proofs.Common.{◌≡◌, ◌≤◌, ℕ, suc, ◌+◌, List, [], ◌∷◌, length, map, Bool, true, false, not, cond, refl, sym, ◌∙◌, ap, subst, arith}
-use Rattle.std.specs.Prelude.{◌==◌, ◌&&◌, ◌||◌, nat_le, bytes_eq, count_by, is_some, Some, find}
+use Rattle.std.specs.Prelude.{◌==◌, ◌&&◌, ◌||◌, nat_le, bytes_eq, count_by, is_some, Some}
 use Rattle.std.specs.List.{list_all}
 use Rattle.std.specs.Char.{is_ascii_alphabetic, is_ascii_alphanumeric, is_ascii_digit, to_ascii_lowercase}
 use Rattle.std.proofs.lemmas.Bool.{and_parts, and_from, or_parts, or_left, or_from, not-true, not_from_false, cond_both, cond-true, cond-false, leb-true, le-leb}
 use Rattle.std.proofs.lemmas.List.{length-map}
 use Rattle.std.proofs.lemmas.Slice.Eq.{bytes_eq-Decides}
-use Rattle.ada_tree.specs.declared.word.Word.{Word}
-use Rattle.ada_tree.specs.Words.{reserved_words, note_words, word_text}
+use Rattle.ada_tree.specs.declared.limits.TheConstants.{LONGEST_NAME}
+use Rattle.base_kit.specs.Bytes.{underscore}
+use Rattle.ada_tree.specs.Tables.{first_value}
+use Rattle.ada_tree.specs.Words.{WordRow, reserved_words, note_words}
 use Rattle.ada_tree.specs.Texts.{begins, is_spaced, is_identifier, is_word_among, is_free}
 use Rattle.lex_ada.specs.declared.token.TokenKind.TheVariants as kind
 use Rattle.lex_ada.specs.Lexis.{is_word_byte, is_numeral, spells, goes_on}
@@ -17,29 +19,35 @@ use Rattle.lex_ada.proofs.lexing.Runs.{IsRun, names, numbers, is_digit_byte, spa
 
 -- ---- words are identifiers
 
--- what all texts of a list pass, a text that is among them passes
-found_passes : {A : Type 0} (spell : A → List ℕ) (good : List ℕ → Bool) (xs : List A) (text : List ℕ) → list_all (λ x. good (spell x)) xs ≡ true → is_some (find (λ x. bytes_eq (spell x) text) xs) ≡ true → good text ≡ true
-found_passes spell good [] text e f = absurd (cc)
-found_passes spell good (x ∷ xs) text e f =
-    let parts = and_parts (good (spell x)) (list_all (λ x. good (spell x)) xs) e in
-    by (bytes_eq (spell x) text) refl parts (found_passes spell good xs text parts.1)
+-- what the texts of all rows pass, a text that is found among them passes
+pub found_passes : {R V : Type 0} (value : R → V) (spell : R → List ℕ) (good : List ℕ → Bool) (rows : List R) (text : List ℕ) → list_all (λ row. good (spell row)) rows ≡ true
+    → is_some (first_value value (λ row. bytes_eq (spell row) text) rows) ≡ true → good text ≡ true
+found_passes value spell good [] text e f = absurd (cc)
+found_passes value spell good (row ∷ rows) text e f =
+    let parts = and_parts (good (spell row)) (list_all (λ row. good (spell row)) rows) e in
+    by (bytes_eq (spell row) text) refl parts (found_passes value spell good rows text parts.1)
   where
-    by : (t : Bool) → bytes_eq (spell x) text ≡ t → (good (spell x) ≡ true) × (list_all (λ x. good (spell x)) xs ≡ true) → (is_some (find (λ x. bytes_eq (spell x) text) xs) ≡ true → good text ≡ true) → good text ≡ true
-    by true t parts more = subst (λ s. good s ≡ true) ((bytes_eq-Decides (spell x) text).0 t) parts.0
-    by false t parts more = more (sym (ap is_some (cond-false (bytes_eq (spell x) text) (Some x) _ t)) ∙ f)
+    by : (t : Bool) → bytes_eq (spell row) text ≡ t → (good (spell row) ≡ true) × (list_all (λ row. good (spell row)) rows ≡ true)
+        → (is_some (first_value value (λ row. bytes_eq (spell row) text) rows) ≡ true → good text ≡ true) → good text ≡ true
+    by true t parts more = subst (λ s. good s ≡ true) ((bytes_eq-Decides (spell row) text).0 t) parts.0
+    by false t parts more = more (sym (ap is_some (cond-false (bytes_eq (spell row) text) (Some (value row)) _ t)) ∙ f)
 
--- a text that is found among some is one of them
-pub found_is : {A : Type 0} (spell : A → List ℕ) (xs : List A) (text : List ℕ) → is_some (find (λ x. bytes_eq (spell x) text) xs) ≡ true → (x : A) × (spell x ≡ text)
-found_is spell [] text f = absurd (cc)
-found_is {A = A} spell (x ∷ xs) text f = by (bytes_eq (spell x) text) refl (found_is spell xs text)
+-- a text that is found among the rows is that of a value
+pub found_is : {R V : Type 0} (value : R → V) (spell : R → List ℕ) (own : V → List ℕ) (rows : List R) → list_all (λ row. bytes_eq (own (value row)) (spell row)) rows ≡ true
+    → (text : List ℕ) → is_some (first_value value (λ row. bytes_eq (spell row) text) rows) ≡ true → (v : V) × (own v ≡ text)
+found_is value spell own [] all text f = absurd (cc)
+found_is {V = V} value spell own (row ∷ rows) all text f =
+    let parts = and_parts (bytes_eq (own (value row)) (spell row)) (list_all (λ row. bytes_eq (own (value row)) (spell row)) rows) all in
+    by (bytes_eq (spell row) text) refl parts.0 (found_is value spell own rows parts.1 text)
   where
-    by : (t : Bool) → bytes_eq (spell x) text ≡ t → (is_some (find (λ x. bytes_eq (spell x) text) xs) ≡ true → (x : A) × (spell x ≡ text)) → (x : A) × (spell x ≡ text)
-    by true t more = (x, (bytes_eq-Decides (spell x) text).0 t)
-    by false t more = more (sym (ap is_some (cond-false (bytes_eq (spell x) text) (Some x) _ t)) ∙ f)
+    by : (t : Bool) → bytes_eq (spell row) text ≡ t → bytes_eq (own (value row)) (spell row) ≡ true
+        → (is_some (first_value value (λ row. bytes_eq (spell row) text) rows) ≡ true → (v : V) × (own v ≡ text)) → (v : V) × (own v ≡ text)
+    by true t same more = (value row, (bytes_eq-Decides (own (value row)) (spell row)).0 same ∙ (bytes_eq-Decides (spell row) text).0 t)
+    by false t same more = more (sym (ap is_some (cond-false (bytes_eq (spell row) text) (Some (value row)) _ t)) ∙ f)
 
--- an identifier of at most 120 bytes
+-- an identifier of a length within the limit
 abbrev pub is_short : List ℕ → Bool
-is_short text = is_identifier text && nat_le (length text) 120
+is_short text = is_identifier text && nat_le (length text) LONGEST_NAME
 
 -- what each byte passes in lower case as well, all pass in lower case as well
 list_all-lower : (test : ℕ → Bool) (text : List ℕ) → ((b : ℕ) → test (to_ascii_lowercase b) ≡ test b) → list_all test (map to_ascii_lowercase text) ≡ list_all test text
@@ -55,8 +63,8 @@ spaced-lower : (after : Bool) (text : List ℕ) → is_spaced after (map to_asci
 spaced-lower after [] = refl
 spaced-lower after (b ∷ text) =
     ap (λ t. cond t (not after && is_spaced true (map to_ascii_lowercase text)) (is_spaced false (map to_ascii_lowercase text))) (lower_underscore b)
-    ∙ ap (λ s. cond (b == 95) (not after && s) (is_spaced false (map to_ascii_lowercase text))) (spaced-lower true text)
-    ∙ ap (λ s. cond (b == 95) (not after && is_spaced true text) s) (spaced-lower false text)
+    ∙ ap (λ s. cond (b == underscore) (not after && s) (is_spaced false (map to_ascii_lowercase text))) (spaced-lower true text)
+    ∙ ap (λ s. cond (b == underscore) (not after && is_spaced true text) s) (spaced-lower false text)
 
 -- an identifier in lower case is one of as many bytes
 short-lower : (text : List ℕ) → is_short (map to_ascii_lowercase text) ≡ is_short text
@@ -66,11 +74,8 @@ short-lower text = rw (begins-lower is_ascii_alphabetic text lower_letter, list_
 word_short : (note : Bool) (text : List ℕ) → spells note kind.Word text ≡ true → is_short text ≡ true
 word_short note text e = by (is_word_among reserved_words text) refl
   where
-    lower : List Word → Type 0
-    lower words = list_all (λ w. is_short (word_text w)) words ≡ true → is_word_among words text ≡ true → is_short text ≡ true
-
-    among : (words : List Word) → lower words
-    among words all f = sym (short-lower text) ∙ found_passes word_text is_short words (map to_ascii_lowercase text) all f
+    among : (rows : List WordRow) → list_all (λ (row : WordRow). is_short row.1.now) rows ≡ true → is_word_among rows text ≡ true → is_short text ≡ true
+    among rows all f = sym (short-lower text) ∙ found_passes (λ (row : WordRow). row.0) (λ (row : WordRow). row.1.now) is_short rows (map to_ascii_lowercase text) all f
 
     by : (t : Bool) → is_word_among reserved_words text ≡ t → is_short text ≡ true
     by true t = among reserved_words refl t
@@ -78,7 +83,7 @@ word_short note text e = by (is_word_among reserved_words text) refl
 
 -- ---- the first byte of a name, and its others
 
--- an identifier of at most 120 bytes
+-- an identifier of a length within the limit
 pub short_run : (b : ℕ) (run : List ℕ) → is_short (b ∷ run) ≡ true → (is_ascii_alphabetic b ≡ true) × IsRun names false 1 run
 short_run b run e =
     let parts = and_parts (is_identifier (b ∷ run)) (nat_le (length (b ∷ run)) 120) e in

@@ -8,6 +8,7 @@ use Rattle.std.proofs.lemmas.List.Sums.{count_by-le-length}
 use Rattle.std.proofs.lemmas.Bool.Decides.{nat_tests}
 use Rattle.std.proofs.lemmas.Slice.Eq.{bytes_eq-Decides}
 use Rattle.ada_tree.specs.declared.word.Word.{Word as WordType}
+use Rattle.ada_tree.specs.declared.limits.TheConstants.{LONGEST_NAME}
 use Rattle.ada_tree.specs.Words.{word_text, reserved_words, note_words}
 use Rattle.ada_tree.specs.Texts.{begins, is_spaced, is_word_among, is_identifier, is_free, is_upper_case, is_number}
 use Rattle.ada_tree.specs.Tokens.{Lexeme, a_name, a_number, a_word, a_mark, Sign, token}
@@ -37,8 +38,8 @@ begins_filled test (b ∷ bytes) e = refl
 -- a name that is no word, for the sign with its text in upper case
 pub spelled_name : (note : Bool) (text upper : List ℕ) → is_free note text ≡ true → map to_ascii_uppercase text ≡ upper → IsSpelled note Name text (token note (a_name upper))
 spelled_name note text upper free same =
-    let in_annotation = and_parts (is_identifier text && nat_le (length text) 120 && not (is_word_among reserved_words text)) _ free in
-    let in_text = and_parts (is_identifier text && nat_le (length text) 120) _ in_annotation.0 in
+    let in_annotation = and_parts (is_identifier text && nat_le (length text) LONGEST_NAME && not (is_word_among reserved_words text)) _ free in
+    let in_text = and_parts (is_identifier text && nat_le (length text) LONGEST_NAME) _ in_annotation.0 in
     let short = and_parts (is_identifier text) _ in_text.0 in
     let spaced = and_parts (begins is_ascii_alphabetic text && list_all (λ b. is_ascii_alphanumeric b || b == 95) text) (is_spaced true text) short.0 in
     let shape = and_parts (begins is_ascii_alphabetic text) _ spaced.0 in

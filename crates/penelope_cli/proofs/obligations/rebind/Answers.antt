@@ -1,9 +1,9 @@
-use Rattle.penelope_cli.proofs.Stores.{set-place, no-place}
-use Rattle.std.proofs.Common.{subst, ◌≤◌, length, ℕ}
+use Rattle.penelope_cli.proofs.Stores.{set-position, no-position}
+use Rattle.std.proofs.Common.{sym, ◌∙◌}
 use Rattle.penelope_cli.proofs.obligations.rebind.Goals as goal
 
-pub returns-then-place-bindings : goal.returns-then-place-bindings
-returns-then-place-bindings c = set-place c.args.bindings.now c.args.name.now c.args.value c.index-bindings-place.result c.place_of-place.result c.place_of-place.ensures c.if-place-bindings.true
+pub returns-in-Some : goal.returns-in-Some
+returns-in-Some c = set-position c.args.bindings.now c.args.name.now c.args.value c.index-bindings-place.result c.in-Some.place (sym c.in-Some.is ∙ c.place_of.ensures)
 
-pub returns-else-place-bindings : goal.returns-else-place-bindings
-returns-else-place-bindings c = no-place c.args.bindings.now c.args.name.now c.args.value (subst (λ (k : ℕ). length c.args.bindings.now ≤ k) c.place_of-place.ensures c.if-place-bindings.false)
+pub returns-in_default : goal.returns-in_default
+returns-in_default c = no-position c.args.bindings.now c.args.name.now c.args.value (sym c.in_default.is ∙ c.place_of.ensures)
