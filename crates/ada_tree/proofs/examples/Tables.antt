@@ -9,6 +9,7 @@ use Rattle.ada_tree.specs.contracts.word.Word as word_row
 use Rattle.ada_tree.specs.contracts.word.Mark as mark_row
 use Rattle.ada_tree.specs.contracts.operator.Operator as operator_row
 use Rattle.ada_tree.specs.contracts.rule.ProofRule as rule_row
+use Rattle.ada_tree.specs.declared.limits.TheConstants.{MOST_NESTED, MOST_NESTED_STEPS, MOST_OPEN, LONGEST_NAME, LONGEST_NUMBER}
 use Rattle.ada_tree.specs.declared.lines.TheConstants.{LINES}
 use Rattle.ada_tree.specs.declared.word.TheConstants.{WORDS, MARKS}
 use Rattle.ada_tree.specs.declared.operator.TheConstants.{OPERATORS}
@@ -51,6 +52,14 @@ operators_in_order = refl
 
 rules_in_order : are_in_order 0 (map (λ row. tag_of rule_row.the_type row.0) PROOF_RULES) ≡ true
 rules_in_order = refl
+
+-- ---- limits
+
+nodes_and_steps : MOST_NESTED ∷ MOST_NESTED_STEPS ∷ MOST_OPEN ∷ [] ≡ 64 ∷ 200 ∷ 64 ∷ []
+nodes_and_steps = refl
+
+names_and_numbers : LONGEST_NAME ∷ LONGEST_NUMBER ∷ [] ≡ 120 ∷ 18 ∷ []
+names_and_numbers = refl
 
 -- ---- words and marks
 
