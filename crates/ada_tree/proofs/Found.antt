@@ -36,7 +36,8 @@ entry_found k text good P h all =
     found (λ (row : OperatorRow). row.0) (passes k text) good P
     (λ row e g. let parts = and_parts (is_kind row.0.kind k) (bytes_eq row.1.now text) e in h row parts.0 parts.1 g) OPERATORS all
 
-if_so : (a b : Bool) → a ≡ true → not a || b ≡ true → b ≡ true
+-- a test that holds where another one does
+pub if_so : (a b : Bool) → a ≡ true → not a || b ≡ true → b ≡ true
 if_so true b e h = h
 if_so false b e h = absurd cc
 

@@ -7,7 +7,7 @@ use Rattle.outside.specs.declared.status.Status.{Status}
 use Rattle.outside.specs.declared.status.Status.TheVariants.{ShelfFailed, SinkFailed, NoMemory}
 use Rattle.outside.specs.Plan.{Plan, finish, say, fetch, store, Event, wrote, got, stored, get_failed, put_failed, Reply, reply_of, Leads, Agrees, bytes_of, calls_of, has_failure, wrote_all, say_all, failed_line, IsCall, IsSay, Ran}
 use Rattle.outside.specs.Output.{output_of, status_of, fails_now, after_call, IsOutput, IsWhole}
-use Rattle.outside.proofs.Events.{calls_of-append}
+use Rattle.outside.proofs.Events.{calls_of-append, not_the_sink}
 
 -- a plan's output over files begins with the events, and goes on as that of what is left
 pub record Unfolds (events : List Event) (plan left : Plan) (files : Files) : Type 0 where
@@ -220,9 +220,6 @@ none_starved status n left h (inr e) = absurd (h e.2)
 stop_cause : (stop : Option ℕ) (c m : ℕ) (P : Type 0) → IfSome stop (λ n. (1 ≤ n) × (n ≡ c)) → (IsSome stop → P) → (IsSome stop → m ≡ 0) → IfSome stop (λ n. (n ≡ c + m) × P)
 stop_cause None c m P h p z = tt
 stop_cause (Some n) c m P h p z = let none : m ≡ 0 = z refl in (omega (arith, h.1), p refl)
-
-not_the_sink : NoMemory ≡ SinkFailed → ⊥
-not_the_sink e = cc
 
 told : (f g : Option Files) (files : Files) (events : List Event) → f ≡ Some files → IfSome f (λ x. IsSomeAnd g (Agrees events x)) → (end : Files) × Agrees events files end
 told None g files events e h = cc

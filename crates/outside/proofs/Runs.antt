@@ -7,7 +7,7 @@ use Rattle.outside.specs.declared.status.Status.{Status}
 use Rattle.outside.specs.declared.status.Status.TheVariants.{SinkFailed, NoMemory}
 use Rattle.outside.specs.Plan.{Plan, finish, say, fetch, Event, got, get_failed, Reply, held, missing, too_long, line_of, reply_of, is_missing, is_too_long, Leads, bytes_of, calls_of, has_failure, has_reply, Agrees, wrote_all, say_all, failed_at, IsCall, Happened, Went, Goes, Ran}
 use Rattle.outside.proofs.Writing.{written_more-append, written_more-none}
-use Rattle.outside.proofs.Events.{leads-append, bytes_of-append, calls_of-append, has_failure-append, has_reply-append, agrees-append, leads-wrote_all, bytes_of-wrote_all, calls_of-wrote_all, has_failure-wrote_all, has_reply-wrote_all, agrees-wrote_all, say_all-append, option_raised, raised-none, rose_later, rose_before}
+use Rattle.outside.proofs.Events.{leads-append, bytes_of-append, calls_of-append, has_failure-append, has_reply-append, agrees-append, leads-wrote_all, bytes_of-wrote_all, calls_of-wrote_all, has_failure-wrote_all, has_reply-wrote_all, agrees-wrote_all, say_all-append, option_raised, raised-none, rose_later, rose_before, not_the_sink}
 
 agrees_then : (a b : List Event) (f g h : Option Files) → IfSome f (λ x. IsSomeAnd g (Agrees a x)) → IfSome g (λ x. IsSomeAnd h (Agrees b x)) → IfSome f (λ x. IsSomeAnd h (Agrees (a ++ b) x))
 agrees_then a b None g h x y = tt
@@ -143,9 +143,6 @@ agrees_none : (f g : Option Files) → g ≡ f → IfSome f (λ x. IsSomeAnd g (
 agrees_none None g e = tt
 agrees_none (Some f) g e = subst (λ (z : Option Files). IsSomeAnd z (Agrees [] f)) (sym e) refl
 
-not_the_sink : NoMemory ≡ SinkFailed → ⊥
-not_the_sink e = cc
-
 tried_one : (n : ℕ) (p : Plan) → (n ≡ 0) ⊎ ((n ≡ 1) × IsCall p) → (n ≡ 0) ⊎ ((n ≡ 1) × (NoMemory ≡ NoMemory) × IsCall p)
 tried_one n p (inl e) = inl e
 tried_one n p (inr (e, c)) = inr (e, refl, c)
@@ -174,7 +171,7 @@ ran_starved p n s s' k tried called counts same = record {
 long_of : (limit n : ℕ) → limit < n → nat_lt limit n ≡ true
 long_of limit n h = grind (arith, nat_tests)
 
-short_of : (limit n : ℕ) → n ≤ limit → nat_lt limit n ≡ false
+pub short_of : (limit n : ℕ) → n ≤ limit → nat_lt limit n ≡ false
 short_of limit n h = grind (arith, nat_tests)
 
 too_long_at : (o : Option (List ℕ)) (limit : ℕ) → IsSomeAnd o (λ b. limit < length b) → too_long ≡ reply_of o limit

@@ -8,6 +8,7 @@ use Rattle.outside.specs.Meaning.{Files, ShelfState, SinkState}
 use Rattle.outside.specs.Plan.{finish, Reply, held, missing, too_long, is_missing, reply_of, absent_line, too_long_line, Ran}
 use Rattle.outside.specs.Output.{status_of, fails_now, after_call}
 use Rattle.outside.proofs.Causes.{Avoids, avoids-say_all, never_answers, Reports, reports-say_all}
+use Rattle.outside.proofs.Runs.{short_of}
 use Rattle.outside.proofs.Outputs.{said_status, status-say_all}
 use Rattle.ada_read.specs.declared.procedure.Procedure.{Procedure}
 use Rattle.ada_read.specs.Feeding.{reading}
@@ -61,9 +62,6 @@ told_file : (file : Option Procedure) (files : Files) (stop : Option ℕ) → st
 told_file None files stop = refl
 told_file (Some unit) files stop = status-say_all (report_of unit.name (obligations_of unit)) Done files stop
 
-test_short : (limit n : ℕ) → n ≤ limit → nat_lt limit n ≡ false
-test_short limit n h = grind (arith, nat_tests)
-
 test_long : (limit n : ℕ) → nat_lt limit n ≡ true → limit < n
 test_long limit n h = grind (arith, nat_tests)
 
@@ -74,7 +72,7 @@ test_no_longer limit n h e = grind (arith, nat_tests)
 sound_at : (name : List ℕ) (bytes : Option (List ℕ)) (files : Files) (stop : Option ℕ) → IsSomeAnd bytes IsSoundSource → status_of (after_get name (reply_of bytes MOST_BYTES)) files stop ≡ Done
 sound_at name None files stop h = absurd h
 sound_at name (Some bytes) files stop (short, (file, is)) =
-    ap (λ (t : Bool). status_of (after_get name (cond t too_long (held bytes))) files stop) (test_short MOST_BYTES (length bytes) short)
+    ap (λ (t : Bool). status_of (after_get name (cond t too_long (held bytes))) files stop) (short_of MOST_BYTES (length bytes) short)
     ∙ ap (λ (read : Option (Option Procedure)). status_of (tell (judgement_of read)) files stop) (file_is_read bytes file is)
     ∙ told_file file files stop
 

@@ -7,12 +7,9 @@ use Rattle.ada_tree.specs.declared.grammar.Shape.TheVariants.{One}
 use Rattle.ada_tree.specs.Rendering.{start, render}
 use Rattle.ada_tree.proofs.Trees.{Tree, no_trees, ◌&◌, tree_items, texted, plain, list, name, int, binary, unary, old, apply}
 
--- an expression, and a term, on a line of its own
+-- an expression or a term, on a line of its own
 abbrev expression : Tree → List ℕ
 expression t = render start (tree_items (One choice.Expr) t)
-
-abbrev term : Tree → List ℕ
-term t = render start (tree_items (One choice.Expr) t)
 
 -- an operand that has operands of its own stands in parentheses, whatever the levels
 sum_of_product : expression (binary (codes "+") (name (codes "A")) (binary (codes "*") (name (codes "B")) (name (codes "C")))) ≡ codes "A + (B * C)\n"
@@ -57,16 +54,16 @@ attributes : expression (texted kind.Attr (codes "SUCC") (name (codes "T") & no_
 attributes = refl
 
 -- in terms: a quantifier with a bound that has operands, and a body without parentheses
-quantifier : term (texted kind.Exists (codes "I") (int (codes "1") & binary (codes "-") (name (codes "N")) (int (codes "1")) & binary (codes "=") (apply (codes "A") (name (codes "I") & no_trees)) (int (codes "0")) & no_trees)) ≡ codes "exists I in 1 .. (N - 1) : A(I) = 0\n"
+quantifier : expression (texted kind.Exists (codes "I") (int (codes "1") & binary (codes "-") (name (codes "N")) (int (codes "1")) & binary (codes "=") (apply (codes "A") (name (codes "I") & no_trees)) (int (codes "0")) & no_trees)) ≡ codes "exists I in 1 .. (N - 1) : A(I) = 0\n"
 quantifier = refl
 
-quantifier_as_operand : term (binary (codes "implies") (name (codes "B")) (texted kind.All (codes "I") (int (codes "1") & int (codes "3") & name (codes "B") & no_trees))) ≡ codes "B implies (for all I in 1 .. 3 : B)\n"
+quantifier_as_operand : expression (binary (codes "implies") (name (codes "B")) (texted kind.All (codes "I") (int (codes "1") & int (codes "3") & name (codes "B") & no_trees))) ≡ codes "B implies (for all I in 1 .. 3 : B)\n"
 quantifier_as_operand = refl
 
 -- the value at entry stands as it is as an operand, and in parentheses as a prefix
-entry_value : term (binary (codes "=") (old (codes "A")) (plain kind.Apply (old (codes "A") & list (name (codes "I") & no_trees) & no_trees))) ≡ codes "in A = (in A)(I)\n"
+entry_value : expression (binary (codes "=") (old (codes "A")) (plain kind.Apply (old (codes "A") & list (name (codes "I") & no_trees) & no_trees))) ≡ codes "in A = (in A)(I)\n"
 entry_value = refl
 
 -- store and its like, and a name at a cut point, whose label is in lower case
-stored : term (texted kind.Make (codes "store") (list (name (codes "A@loop1") & name (codes "I@loop1") & name (codes "return@call2") & no_trees) & no_trees)) ≡ codes "store(A@loop1, I@loop1, return@call2)\n"
+stored : expression (texted kind.Make (codes "store") (list (name (codes "A@loop1") & name (codes "I@loop1") & name (codes "return@call2") & no_trees) & no_trees)) ≡ codes "store(A@loop1, I@loop1, return@call2)\n"
 stored = refl

@@ -141,16 +141,13 @@ mode_written = spells_grown false (choice.Only kind.Formal) formal_in (ada (X �
 abbrev one_comment : List ℕ
 one_comment = codes "-- one"
 
-abbrev two_comment : List ℕ
-two_comment = codes "-- two"
-
 -- a procedure that does nothing, with a comment before its statement and one before its end
 abbrev procedure_unit : Tree
 procedure_unit = unit (texted kind.SubBody (codes "P") (
     texted kind.Proc (codes "P") (none & no_trees)
     & none
     & list no_trees
-    & plain kind.Seq (tree kind.List [] (two_comment ∷ []) (tree kind.Null [] (one_comment ∷ []) no_trees & no_trees) & none & no_trees)
+    & plain kind.Seq (tree kind.List [] (codes "-- two" ∷ []) (tree kind.Null [] (one_comment ∷ []) no_trees & no_trees) & none & no_trees)
     & no_trees))
 
 abbrev procedure_file : Tree
@@ -160,13 +157,13 @@ abbrev procedure_events : List Event
 procedure_events = comments [] ∷ spell false (a_word word.Procedure ∷ a_name (codes "P") ∷ a_word word.Is ∷ []) (
     comments [] ∷ spell false (a_word word.Begin ∷ []) (
     comments (one_comment ∷ []) ∷ spell false (a_word word.Null ∷ semicolon ∷ []) (
-    comments (two_comment ∷ []) ∷ spell false (a_word word.End ∷ semicolon ∷ []) (
+    comments (codes "-- two" ∷ []) ∷ spell false (a_word word.End ∷ semicolon ∷ []) (
     comments [] ∷ []))))
 
 abbrev procedure_signs : List Sign
 procedure_signs = and_signs (a_word word.Procedure ∷ a_name (codes "P") ∷ a_word word.Is ∷ a_word word.Begin ∷ []) (
     comment one_comment ∷ and_signs (a_word word.Null ∷ semicolon ∷ []) (
-    comment two_comment ∷ and_signs (a_word word.End ∷ semicolon ∷ []) []))
+    comment (codes "-- two") ∷ and_signs (a_word word.End ∷ semicolon ∷ []) []))
 
 -- procedure P is begin -- one null; -- two end; : the closing name is left out, and each comment belongs to what follows it, the second to the list
 procedure_read : IsReading false (choice.Only kind.File) procedure_signs (grown procedure_file)

@@ -142,7 +142,7 @@ left_of_two : (a : Bool) → a || false || false ≡ true → a ≡ true
 left_of_two true h = refl
 left_of_two false h = absurd cc
 
-left_of_three : (a : Bool) → a || false || false || false ≡ true → a ≡ true
+pub left_of_three : (a : Bool) → a || false || false || false ≡ true → a ≡ true
 left_of_three true h = refl
 left_of_three false h = absurd cc
 

@@ -19,8 +19,8 @@ use Rattle.ada_tree.specs.Choices.{kinds, expression_kinds, floor, binds, is_coe
 use Rattle.ada_tree.specs.Texts.{symbol_items}
 use Rattle.ada_tree.specs.Lines.{line, line_by_operator}
 use Rattle.ada_tree.specs.Canonical.{is_compound, is_wrapped}
-use Rattle.ada_tree.proofs.Found.{entry_found, entry_of_kind_passes}
-use Rattle.ada_tree.proofs.round_trip.Places.{same_kind, all_among, both}
+use Rattle.ada_tree.proofs.Found.{entry_found, entry_of_kind_passes, if_so}
+use Rattle.ada_tree.proofs.round_trip.Places.{same_kind, all_among, both, left_of_three}
 use Rattle.ada_tree.proofs.round_trip.OpenedItems.{one_of}
 use Rattle.lex_ada.proofs.apart.Fronts.{usual, after_mark, starting}
 use Rattle.lex_ada.proofs.apart.Items.{IsApart, fit_items, fit_apart}
@@ -38,10 +38,6 @@ fits note row = not (has_side note row.0.side) || fit_items note (before_use (us
 all_fit : (note : Bool) → list_all (fits note) OPERATORS ≡ true
 all_fit true = refl
 all_fit false = refl
-
-if_so : (a b : Bool) → a ≡ true → not a || b ≡ true → b ≡ true
-if_so true b e h = h
-if_so false b e h = absurd cc
 
 found_operates : (note : Bool) (k : Kind) (text : List ℕ) → has_operator note k text ≡ true → Operates (use_of (entry_of k text)) note text
 found_operates note k text h =
@@ -162,10 +158,6 @@ operand_starts true l kind.Member text s h = absurd cc
 operand_starts false l kind.Member text s h = absurd cc
 operand_starts true l _ text s h = cc
 operand_starts false l _ text s h = cc
-
-left_of_three : (a : Bool) → a || false || false || false ≡ true → a ≡ true
-left_of_three true h = refl
-left_of_three false h = absurd cc
 
 number_starts : (note : Bool) (k : Kind) (text : List ℕ) → stands note (choice.Only kind.Int) k text ≡ true → Starts note (choice.Only kind.Int) k text
 number_starts note k text h = subst (λ k. Starts note (choice.Only kind.Int) k text) (same_kind kind.Int k (both (left_of_three (is_kind kind.Int k && on_side note k text) h)).0) (by_note note)
