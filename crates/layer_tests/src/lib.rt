@@ -8,6 +8,8 @@ mod bases;
 #[cfg(test)]
 mod edges;
 #[cfg(test)]
+mod scripts;
+#[cfg(test)]
 mod terms;
 #[cfg(test)]
 mod tokens;
