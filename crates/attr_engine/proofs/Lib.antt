@@ -1,0 +1,14 @@
+pub mod Alike
+pub mod Counting
+pub mod Done
+pub mod Edited
+pub mod Growths
+pub mod Lists
+pub mod Pairing
+pub mod Planned
+pub mod Planning
+pub mod Renewing
+pub mod Results
+pub mod Settling
+pub mod SoFar
+pub mod There
