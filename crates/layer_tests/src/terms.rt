@@ -1,4 +1,6 @@
-// What no clause says: that each call can succeed with ample memory.
+// What no clause says: that each call can succeed with ample memory. The values are made and looked
+// at in small functions that answer plain ones, since a test that keeps values of types that lead
+// back to themselves takes minutes to prove.
 ghost use Rattle.std.specs.Prelude.{◌≡◌, IfOk, length};
 
 use base_kit::{Copied, Memory, Names, Text};
@@ -6,12 +8,27 @@ use sqlite_items::{Boxed, Items};
 use std::alloc::Global;
 use std::test::Fail;
 use term_core::{
-    Obligation, Obligations, OpNames, Oper, Sequent, Sort, SortEntry, SortNames, Term, Terms, Var,
-    Vars,
+    Entries, Entry, Obligation, Obligations, OpNames, Oper, Sequent, Sort, SortEntry, SortNames,
+    Sorts, Term, Terms, Var, Vars, depth, equal, free_names, put_entries, size, subst,
 };
+use term_counts::{Measure, Measures, TermCounts, counts_of, put_depth, put_size};
+use term_sorts::{OpSort, OpSorts, sort_of};
 
 fn text(alloc: Global, bytes: &str) -> Result<Text, Memory> {
     Ok(Text::from(bytes.as_bytes().to_vec(alloc)?))
+}
+
+// ---- sorts
+
+fn array(alloc: Global) -> Result<Sort, Memory> {
+    Ok(Sort::Array(0, 9, Boxed::new(alloc, Sort::Whole)?))
+}
+
+fn record(alloc: Global) -> Result<Sort, Memory> {
+    let mut parts = Items::new(alloc);
+    parts.push(Sort::Truth)?;
+    parts.push(Sort::Whole)?;
+    Ok(Sort::Record(4, parts))
 }
 
 // A sort's form and its size.
@@ -26,113 +43,428 @@ fn sort_shape(sort: &Sort) -> (&'static str, usize) {
     }
 }
 
-fn copied_sort(alloc: Global, sort: Sort) -> Result<(&'static str, usize), Memory> {
+fn copied_sort(alloc: Global, sort: &Sort) -> Result<(&'static str, usize), Memory> {
     Ok(sort_shape(&sort.copy(alloc)?))
+}
+
+fn copied_array(alloc: Global) -> Result<(&'static str, usize), Memory> {
+    copied_sort(alloc, &array(alloc)?)
+}
+
+fn copied_record(alloc: Global) -> Result<(&'static str, usize), Memory> {
+    copied_sort(alloc, &record(alloc)?)
 }
 
 #[test]
 fn sorts_are_copied(rt: HostRuntime) -> Result<(), Fail> {
     let alloc = rt.alloc();
-    assert_eq!(rt; copied_sort(alloc, Sort::Whole)?, ("whole", 0));
-    assert_eq!(rt; copied_sort(alloc, Sort::Range(-3, 8))?, ("range", 0));
-    assert_eq!(rt; copied_sort(alloc, Sort::Truth)?, ("truth", 0));
-    assert_eq!(rt; copied_sort(alloc, Sort::Free(6))?, ("free", 0));
-    let array = Sort::Array(0, 9, Boxed::new(alloc, Sort::Whole)?);
-    assert_eq!(rt; copied_sort(alloc, array)?, ("array", 1));
-    let record = Sort::Record(
-        4,
-        Items::from_vec(vec![in alloc; Sort::Truth, Sort::Whole]?),
-    );
-    assert_eq!(rt; copied_sort(alloc, record)?, ("record", 2));
+    assert_eq!(rt; copied_sort(alloc, &Sort::Range(-3, 8))?, ("range", 0));
+    assert_eq!(rt; copied_sort(alloc, &Sort::Free(6))?, ("free", 0));
+    assert_eq!(rt; copied_array(alloc)?, ("array", 1));
+    assert_eq!(rt; copied_record(alloc)?, ("record", 2));
     Ok(())
 }
 
-// A term's form and its size.
-fn shape(term: &Term) -> (&'static str, usize) {
-    match term {
-        Term::Int(_) => ("int", 0),
-        Term::Truth(_) => ("truth", 0),
-        Term::Var(name) => ("var", name.as_bytes().len()),
-        Term::Op(_, terms) => ("op", terms.len()),
-        Term::All(name, _, _, _) => ("all", name.as_bytes().len()),
-        Term::Some(name, _, _, _) => ("some", name.as_bytes().len()),
-    }
+// ---- terms
+
+fn variable(alloc: Global, name: &str) -> Result<Term, Memory> {
+    Ok(Term::Var(text(alloc, name)?))
 }
 
-fn copied(alloc: Global, term: Term) -> Result<(&'static str, usize), Memory> {
-    Ok(shape(&term.copy(alloc)?))
+fn two(alloc: Global, oper: Oper, left: Term, right: Term) -> Result<Term, Memory> {
+    let mut terms = Items::new(alloc);
+    terms.push(left)?;
+    terms.push(right)?;
+    Ok(Term::Op(oper, terms))
 }
 
-fn part(alloc: Global) -> Result<Boxed<Term>, Memory> {
-    Ok(Boxed::new(alloc, Term::Int(1))?)
+// for all NAME in 0 .. 1 : NAME = OTHER
+fn each(alloc: Global, name: &str, other: &str) -> Result<Term, Memory> {
+    let body = two(
+        alloc,
+        Oper::Eq,
+        variable(alloc, name)?,
+        variable(alloc, other)?,
+    )?;
+    Ok(Term::All(
+        text(alloc, name)?,
+        Boxed::new(alloc, Term::Int(0))?,
+        Boxed::new(alloc, Term::Int(1))?,
+        Boxed::new(alloc, body)?,
+    ))
 }
 
-fn all(alloc: Global) -> Result<Term, Memory> {
-    Ok(Term::All(text(alloc, "i")?, part(alloc)?, part(alloc)?, part(alloc)?))
+// LEFT - RIGHT
+fn difference(alloc: Global, left: &str, right: &str) -> Result<Term, Memory> {
+    two(
+        alloc,
+        Oper::Sub,
+        variable(alloc, left)?,
+        variable(alloc, right)?,
+    )
 }
 
-fn some(alloc: Global) -> Result<Term, Memory> {
-    Ok(Term::Some(text(alloc, "j2")?, part(alloc)?, part(alloc)?, part(alloc)?))
+fn copied_as_it_is(alloc: Global, term: &Term) -> Result<bool, Memory> {
+    Ok(equal(&term.copy(alloc)?, term))
+}
+
+fn each_is_copied(alloc: Global) -> Result<bool, Memory> {
+    copied_as_it_is(alloc, &each(alloc, "J", "X")?)
+}
+
+fn difference_is_copied(alloc: Global) -> Result<bool, Memory> {
+    copied_as_it_is(alloc, &difference(alloc, "X", "Y")?)
+}
+
+// Bound names count.
+fn bound_names_count(alloc: Global) -> Result<bool, Memory> {
+    Ok(!equal(&each(alloc, "J", "X")?, &each(alloc, "K", "X")?))
 }
 
 #[test]
-fn terms_are_copied(rt: HostRuntime) -> Result<(), Fail> {
+fn terms_are_copied_and_compared(rt: HostRuntime) -> Result<(), Fail> {
     let alloc = rt.alloc();
-    assert_eq!(rt; copied(alloc, Term::Int(-7))?, ("int", 0));
-    assert_eq!(rt; copied(alloc, Term::Truth(true))?, ("truth", 0));
-    assert_eq!(rt; copied(alloc, Term::Var(text(alloc, "xyz")?))?, ("var", 3));
-    let sum = Term::Op(
-        Oper::Add,
-        Items::from_vec(vec![in alloc; Term::Int(1), Term::Int(2)]?),
-    );
-    assert_eq!(rt; copied(alloc, sum)?, ("op", 2));
-    assert_eq!(rt; copied(alloc, all(alloc)?)?, ("all", 1));
-    assert_eq!(rt; copied(alloc, some(alloc)?)?, ("some", 2));
+    assert_eq!(rt; each_is_copied(alloc)?, true);
+    assert_eq!(rt; difference_is_copied(alloc)?, true);
+    assert_eq!(rt; bound_names_count(alloc)?, true);
     Ok(())
 }
 
-// One variable, one hypothesis and a goal.
-fn obligation(alloc: Global) -> Result<Obligation, Memory> {
-    let mut vars = Vec::new(alloc);
+// Size, depth and the number of free names.
+fn measured(alloc: Global) -> Result<(u64, u64, usize), Memory> {
+    let term = each(alloc, "J", "X")?;
+    let names = free_names(alloc, &term)?;
+    Ok((size(&term), depth(&term), names.as_slice().len()))
+}
+
+#[test]
+fn terms_are_measured(rt: HostRuntime) -> Result<(), Fail> {
+    assert_eq!(rt; measured(rt.alloc())?, (6, 3, 1));
+    Ok(())
+}
+
+// ---- substitution
+
+// A quantifier's name, what its body compares it with, the name that X becomes, and both in the
+// result.
+type Replaced = (
+    &'static str,
+    &'static str,
+    &'static str,
+    &'static str,
+    &'static str,
+);
+
+// Capture, a tick that is there already, ticks that aren't needed, a name of ticks alone, a bound
+// name, and a name that doesn't occur.
+const REPLACED: &[Replaced] = &[
+    ("J", "X", "J", "J'", "J"),
+    ("J", "X", "J'", "J", "J'"),
+    ("J'", "X", "J", "J'", "J"),
+    ("K''", "X", "J", "K", "J"),
+    ("K'", "K", "J", "K'", "K"),
+    ("''", "X", "J", "", "J"),
+    ("X", "X", "J", "X", "X"),
+    ("X", "Y", "Y", "X", "Y"),
+    ("J'", "Y", "J", "J", "Y"),
+];
+
+fn is_replaced(alloc: Global, row: &Replaced) -> Result<bool, Memory> {
+    let (bound, other, by, new_bound, new_other) = *row;
+    let term = each(alloc, bound, other)?;
+    let made = subst(alloc, &term, &text(alloc, "X")?, &variable(alloc, by)?)?;
+    Ok(equal(&made, &each(alloc, new_bound, new_other)?))
+}
+
+// The number of the first row that is wrong, or of all rows.
+fn rows_replaced(alloc: Global) -> Result<usize, Memory> {
+    for (i, row) in REPLACED.iter().enumerate() {
+        if !is_replaced(alloc, row)? {
+            return Ok(i);
+        }
+    }
+    Ok(REPLACED.len())
+}
+
+fn entry(alloc: Global, name: &str, by: &str) -> Result<Entry, Memory> {
+    Ok(Entry {
+        name: text(alloc, name)?,
+        by: variable(alloc, by)?,
+    })
+}
+
+// X and Y for each other; that X stays comes first, and so doesn't count.
+fn exchange(alloc: Global) -> Result<Entries, Memory> {
+    let mut entries = Entries::new(alloc);
+    entries.push(entry(alloc, "X", "X")?)?;
+    entries.push(entry(alloc, "X", "Y")?)?;
+    entries.push(entry(alloc, "Y", "X")?)?;
+    Ok(entries)
+}
+
+fn replaces_at_once(alloc: Global) -> Result<bool, Memory> {
+    let entries = exchange(alloc)?;
+    let made = put_entries(alloc, &difference(alloc, "X", "Y")?, &entries.copy(alloc)?)?;
+    Ok(equal(&made, &difference(alloc, "Y", "X")?))
+}
+
+#[test]
+fn names_are_replaced(rt: HostRuntime) -> Result<(), Fail> {
+    let alloc = rt.alloc();
+    assert_eq!(rt; rows_replaced(alloc)?, REPLACED.len());
+    assert_eq!(rt; replaces_at_once(alloc)?, true);
+    Ok(())
+}
+
+// ---- counts
+
+fn measure(alloc: Global, name: &str, size: u64, depth: u64) -> Result<Measure, Memory> {
+    let name = text(alloc, name)?;
+    Ok(Measure { name, size, depth })
+}
+
+fn difference_counts(alloc: Global) -> Result<TermCounts, Memory> {
+    counts_of(alloc, &difference(alloc, "X", "X")?)?.copy(alloc)
+}
+
+fn measures(alloc: Global) -> Result<Measures, Memory> {
+    let mut measures = Measures::new(alloc);
+    measures.push(measure(alloc, "X", 10, 4)?.copy(alloc)?)?;
+    Ok(measures)
+}
+
+// X - X with ten nodes, four deep, for X.
+fn counted(alloc: Global) -> Result<(u64, u64), Memory> {
+    let counts = difference_counts(alloc)?;
+    let measures = measures(alloc)?;
+    Ok((put_size(&counts, &measures), put_depth(&counts, &measures)))
+}
+
+#[test]
+fn sizes_are_found_before_terms_are_made(rt: HostRuntime) -> Result<(), Fail> {
+    assert_eq!(rt; counted(rt.alloc())?, (21, 5));
+    Ok(())
+}
+
+// ---- sorts of terms
+
+fn add_variable(alloc: Global, vars: &mut Vars, name: &str, sort: Sort) -> Result<(), Memory> {
     vars.push(Var {
-        name: text(alloc, "x")?,
+        name: text(alloc, name)?,
         label: text(alloc, "SMALL")?,
-        sort: Sort::Range(0, 5),
-    })?;
+        sort,
+    })
+}
+
+// N is a whole number, R of a range, T a truth value, A a list, P a record and L of a generated sort.
+fn variables(alloc: Global) -> Result<Vars, Memory> {
+    let mut vars = Vars::new(alloc);
+    add_variable(alloc, &mut vars, "N", Sort::Whole)?;
+    add_variable(alloc, &mut vars, "R", Sort::Range(0, 5))?;
+    add_variable(alloc, &mut vars, "T", Sort::Truth)?;
+    add_variable(alloc, &mut vars, "A", array(alloc)?)?;
+    add_variable(alloc, &mut vars, "P", record(alloc)?)?;
+    add_variable(alloc, &mut vars, "L", Sort::Free(0))?;
+    Ok(vars)
+}
+
+fn operator(alloc: Global, oper: Oper, args: Sorts, gives: Sort) -> Result<OpSort, Memory> {
+    let entry = OpSort {
+        oper,
+        args,
+        result: gives,
+    };
+    entry.copy(alloc)
+}
+
+fn sorts(alloc: Global, first: Sort) -> Result<Sorts, Memory> {
+    let mut sorts = Sorts::new(alloc);
+    sorts.push(first)?;
+    Ok(sorts)
+}
+
+// A component of the record, its replacement, a list of one element, the record, and an operator.
+fn operators(alloc: Global) -> Result<OpSorts, Memory> {
+    let mut ops = OpSorts::new(alloc);
+    let of_record = sorts(alloc, record(alloc)?)?;
+    ops.push(operator(alloc, Oper::Field(0), of_record, Sort::Truth)?)?;
+    let mut two_of = sorts(alloc, record(alloc)?)?;
+    two_of.push(Sort::Truth)?;
+    ops.push(operator(alloc, Oper::Update(0), two_of, record(alloc)?)?)?;
+    let of_number = sorts(alloc, Sort::Range(0, 5))?;
+    ops.push(operator(alloc, Oper::Fill(0), of_number, array(alloc)?)?)?;
+    Ok(ops)
+}
+
+fn more_operators(alloc: Global) -> Result<OpSorts, Memory> {
+    let mut ops = operators(alloc)?;
+    let mut parts = sorts(alloc, Sort::Truth)?;
+    parts.push(Sort::Whole)?;
+    ops.push(operator(alloc, Oper::Make(4), parts, record(alloc)?)?)?;
+    let of_free = sorts(alloc, Sort::Free(0))?;
+    ops.push(operator(alloc, Oper::User(3), of_free, Sort::Range(1, 2))?)?;
+    Ok(ops)
+}
+
+// The names of an operator's operands, and the form of its result.
+const SORTED: &[(Oper, &str, &str)] = &[
+    (Oper::Add, "NR", "whole"),
+    (Oper::Add, "NT", "none"),
+    (Oper::Add, "N", "none"),
+    (Oper::Sub, "NN", "whole"),
+    (Oper::Sub, "TN", "none"),
+    (Oper::Mul, "RR", "whole"),
+    (Oper::Mul, "AN", "none"),
+    (Oper::Div, "NN", "whole"),
+    (Oper::Div, "NX", "none"),
+    (Oper::Rem, "NN", "whole"),
+    (Oper::Rem, "TT", "none"),
+    (Oper::Mod, "NN", "whole"),
+    (Oper::Mod, "NNN", "none"),
+    (Oper::Neg, "R", "whole"),
+    (Oper::Neg, "T", "none"),
+    (Oper::Abs, "N", "whole"),
+    (Oper::Abs, "NN", "none"),
+    (Oper::Eq, "NR", "truth"),
+    (Oper::Eq, "AA", "truth"),
+    (Oper::Eq, "LL", "truth"),
+    (Oper::Eq, "NT", "none"),
+    (Oper::Eq, "AP", "none"),
+    (Oper::Lt, "NN", "truth"),
+    (Oper::Lt, "TT", "none"),
+    (Oper::Le, "NR", "truth"),
+    (Oper::Le, "AA", "none"),
+    (Oper::Gt, "RN", "truth"),
+    (Oper::Gt, "TN", "none"),
+    (Oper::Ge, "NN", "truth"),
+    (Oper::Ge, "NT", "none"),
+    (Oper::And, "TT", "truth"),
+    (Oper::And, "NN", "none"),
+    (Oper::Or, "TT", "truth"),
+    (Oper::Or, "TN", "none"),
+    (Oper::Xor, "TT", "truth"),
+    (Oper::Xor, "NT", "none"),
+    (Oper::Not, "T", "truth"),
+    (Oper::Not, "N", "none"),
+    (Oper::Implies, "TT", "truth"),
+    (Oper::Implies, "NN", "none"),
+    (Oper::Iff, "TT", "truth"),
+    (Oper::Iff, "T", "none"),
+    (Oper::If, "TRN", "whole"),
+    (Oper::If, "TAA", "array"),
+    (Oper::If, "TNT", "none"),
+    (Oper::If, "NNN", "none"),
+    (Oper::Select, "AN", "whole"),
+    (Oper::Select, "AT", "none"),
+    (Oper::Select, "NN", "none"),
+    (Oper::Store, "ANR", "array"),
+    (Oper::Store, "ANT", "none"),
+    (Oper::Store, "PNN", "none"),
+    (Oper::Field(0), "P", "truth"),
+    (Oper::Field(0), "A", "none"),
+    (Oper::Field(1), "P", "none"),
+    (Oper::Update(0), "PT", "record"),
+    (Oper::Update(0), "PN", "none"),
+    (Oper::Fill(0), "N", "array"),
+    (Oper::Fill(0), "T", "none"),
+    (Oper::Make(4), "TN", "record"),
+    (Oper::Make(4), "NT", "none"),
+    (Oper::User(3), "L", "whole"),
+    (Oper::User(3), "N", "none"),
+    (Oper::User(4), "L", "none"),
+];
+
+fn applied(alloc: Global, oper: Oper, operands: &str) -> Result<Term, Memory> {
+    let mut terms = Terms::new(alloc);
+    for name in operands.as_bytes() {
+        let mut bytes = Vec::new(alloc);
+        bytes.push(*name)?;
+        terms.push(Term::Var(Text::from(bytes)))?;
+    }
+    Ok(Term::Op(oper, terms))
+}
+
+fn form_of(sort: &Option<Sort>) -> &'static str {
+    match sort {
+        Some(sort) => sort_shape(sort).0,
+        None => "none",
+    }
+}
+
+fn is_sorted(
+    alloc: Global,
+    row: &(Oper, &'static str, &'static str),
+    vars: &Vars,
+    ops: &OpSorts,
+) -> Result<bool, Memory> {
+    let (oper, operands, form) = *row;
+    let sort = sort_of(alloc, &applied(alloc, oper, operands)?, vars, ops)?;
+    Ok(form_of(&sort) == form)
+}
+
+// The number of the first row that is wrong, or of all rows.
+fn rows_sorted(alloc: Global) -> Result<usize, Memory> {
+    let vars = variables(alloc)?;
+    let ops = more_operators(alloc)?;
+    for (i, row) in SORTED.iter().enumerate() {
+        if !is_sorted(alloc, row, &vars, &ops)? {
+            return Ok(i);
+        }
+    }
+    Ok(SORTED.len())
+}
+
+#[test]
+fn sorts_of_terms_are_found(rt: HostRuntime) -> Result<(), Fail> {
+    assert_eq!(rt; rows_sorted(rt.alloc())?, SORTED.len());
+    Ok(())
+}
+
+// ---- obligations
+
+// Six variables, one hypothesis and a goal.
+fn obligation(alloc: Global) -> Result<Obligation, Memory> {
     let mut hyps = Terms::new(alloc);
     hyps.push(Term::Int(1))?;
     Ok(Obligation {
         cut: text(alloc, "loop1")?,
         ordinal: 3,
         sequent: Sequent {
-            vars: Vars::from(vars),
+            vars: variables(alloc)?,
             hyps,
             goal: Term::Truth(true),
         },
     })
 }
 
-fn copied_obligations(alloc: Global) -> Result<Vec<Obligation>, Memory> {
-    let mut obligations = Vec::new(alloc);
+// How many obligations there are, and of the first one the length of its label, its ordinal and
+// the numbers of its variables and hypotheses.
+fn obligation_shape(obligations: &[Obligation]) -> (usize, usize, u32, usize, usize) {
+    match obligations {
+        [first, ..] => (
+            obligations.len(),
+            first.cut.as_bytes().len(),
+            first.ordinal,
+            first.sequent.vars.as_slice().len(),
+            first.sequent.hyps.len(),
+        ),
+        [] => (0, 0, 0, 0, 0),
+    }
+}
+
+fn copied_obligations(alloc: Global) -> Result<(usize, usize, u32, usize, usize), Memory> {
+    let mut obligations = Obligations::new(alloc);
     obligations.push(obligation(alloc)?)?;
-    let obligations = Obligations::from(obligations);
-    Ok(obligations.copy(alloc)?.into_vec())
+    Ok(obligation_shape(obligations.copy(alloc)?.as_slice()))
 }
 
 #[test]
 fn obligations_are_copied(rt: HostRuntime) -> Result<(), Fail> {
-    let obligations = copied_obligations(rt.alloc())?;
-    assert_eq!(rt; obligations.len(), 1);
-    let obligation = &obligations[0];
-    assert_eq!(rt; obligation.cut.as_bytes(), "loop1".as_bytes());
-    assert_eq!(rt; obligation.ordinal, 3);
-    assert_eq!(rt; obligation.sequent.hyps.len(), 1);
-    assert_eq!(rt; shape(&obligation.sequent.goal), ("truth", 0));
-    let vars = obligation.sequent.vars.as_slice();
-    assert_eq!(rt; vars.len(), 1);
-    assert_eq!(rt; vars[0].label.as_bytes(), "SMALL".as_bytes());
+    assert_eq!(rt; copied_obligations(rt.alloc())?, (1, 5, 3, 6, 1));
     Ok(())
 }
+
+// ---- names
 
 fn pair(alloc: Global, first: &str, second: &str) -> Result<Names, Memory>
     ensures { IfOk result (λ names. length names ≡ 2) }
@@ -158,31 +490,38 @@ fn sort_names(alloc: Global) -> Result<SortNames, Memory> {
     names.copy(alloc)
 }
 
-#[test]
-fn type_names_are_added_and_copied(rt: HostRuntime) -> Result<(), Fail> {
-    let names = sort_names(rt.alloc())?;
-    let entries = names.as_slice();
-    assert_eq!(rt; entries.len(), 1);
-    assert_eq!(rt; entries[0].name.as_bytes(), "PAIR".as_bytes());
-    assert_eq!(rt; sort_shape(&entries[0].sort), ("record", 2));
-    assert_eq!(rt; entries[0].parts.as_slice().len(), 2);
-    Ok(())
+// How many entries there are, and of the first one the length of its name and its components.
+fn copied_names(alloc: Global) -> Result<(usize, usize, usize), Memory> {
+    let names = sort_names(alloc)?;
+    Ok(match names.as_slice() {
+        [first, ..] => (
+            names.as_slice().len(),
+            first.name.as_bytes().len(),
+            first.parts.as_slice().len(),
+        ),
+        [] => (0, 0, 0),
+    })
 }
 
-fn op_names(alloc: Global) -> Result<OpNames, Memory> {
+// The numbers of names of operators, types and components.
+fn copied_op_names(alloc: Global) -> Result<(usize, usize, usize), Memory> {
     let names = OpNames {
         ops: pair(alloc, "LEN", "APPEND")?,
         types: Names::new(alloc),
         parts: pair(alloc, "LEFT", "RIGHT")?,
     };
-    names.copy(alloc)
+    let same = names.copy(alloc)?;
+    Ok((
+        same.ops.as_slice().len(),
+        same.types.as_slice().len(),
+        same.parts.as_slice().len(),
+    ))
 }
 
 #[test]
-fn names_of_operators_are_copied(rt: HostRuntime) -> Result<(), Fail> {
-    let names = op_names(rt.alloc())?;
-    assert_eq!(rt; names.ops.as_slice().len(), 2);
-    assert_eq!(rt; names.types.as_slice().len(), 0);
-    assert_eq!(rt; names.parts.as_slice().len(), 2);
+fn names_are_added_and_copied(rt: HostRuntime) -> Result<(), Fail> {
+    let alloc = rt.alloc();
+    assert_eq!(rt; copied_names(alloc)?, (1, 4, 2));
+    assert_eq!(rt; copied_op_names(alloc)?, (2, 0, 2));
     Ok(())
 }

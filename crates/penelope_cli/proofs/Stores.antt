@@ -18,6 +18,7 @@ use Rattle.ada_read.specs.declared.procedure.Atom.TheVariants.{Name, Number}
 use Rattle.ada_read.specs.Conditions.{has, knows_atom, knows_operand, knows_clause, knows_statement, Meets}
 use Rattle.term_core.specs.declared.term.Term.{Term}
 use Rattle.term_core.specs.Terms.{var, equal}
+use Rattle.term_core.proofs.NameLaws.{same_name}
 use Rattle.penelope_cli.specs.declared.obligations.Binding.{Binding}
 use Rattle.penelope_cli.specs.Bindings.{bound_value, rebound, bound_atom, bound_operand, bound_conclusions, after_statement, after_statements, entry_bindings}
 use Rattle.penelope_cli.specs.Paths.{Store, entry_store, value_of, operand_of, after, after_all, conclusions_of}
@@ -33,18 +34,15 @@ other_true : (a b : Bool) → a ≡ false → (a || b) ≡ true → b ≡ true
 other_true true b e f = cc
 other_true false b e f = f
 
-same_bytes : (x y : List ℕ) → bytes_eq x y ≡ true → x ≡ y
-same_bytes x y e = (bytes_eq-Decides x y).0 e
-
 bytes_eq-same : (x y : List ℕ) → x ≡ y → bytes_eq x y ≡ true
 bytes_eq-same x y e = (bytes_eq-Decides x y).1 e
 
 bytes_eq-along : (x y z : List ℕ) → bytes_eq x y ≡ true → bytes_eq x z ≡ bytes_eq y z
-bytes_eq-along x y z e = ap (λ (w : List ℕ). bytes_eq w z) (same_bytes x y e)
+bytes_eq-along x y z e = ap (λ (w : List ℕ). bytes_eq w z) (same_name x y e)
 
 -- x is apart from b, and y is b, so x is apart from y
 apart_by : (b x y : List ℕ) (t : Bool) → bytes_eq x y ≡ t → bytes_eq b x ≡ false → bytes_eq b y ≡ true → t ≡ false
-apart_by b x y true e f g = let same : b ≡ x = same_bytes b y g ∙ sym (same_bytes x y e) in let is = bytes_eq-same b x same in cc
+apart_by b x y true e f g = let same : b ≡ x = same_name b y g ∙ sym (same_name x y e) in let is = bytes_eq-same b x same in cc
 apart_by b x y false e f g = refl
 
 -- the place of a name among bindings
@@ -140,7 +138,7 @@ bound-rebound (b ∷ bs) x v y h = bound_by (bytes_eq b.object x) b bs x v y ref
 
 -- at entry
 entry_by : (t : Bool) (name y : List ℕ) (rest : Term) → bytes_eq name y ≡ t → rest ≡ var y → cond t (var name) rest ≡ var y
-entry_by true name y rest e h = ap var (same_bytes name y e)
+entry_by true name y rest e h = ap var (same_name name y e)
 entry_by false name y rest e h = h
 
 bound-entry : (names : List (List ℕ)) (y : List ℕ) → bound_value (entry_bindings names) y ≡ var y

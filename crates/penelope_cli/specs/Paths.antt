@@ -14,10 +14,11 @@ use Rattle.term_core.specs.declared.sequent.Var.{Var}
 use Rattle.term_core.specs.declared.sequent.Sequent.{Sequent}
 use Rattle.term_core.specs.declared.obligation.Obligation.{Obligation}
 use Rattle.term_core.specs.Terms.{range, int, truth, var, equal, both}
+use Rattle.term_core.specs.Substitution.{Sub}
 
 -- a term for each object
 abbrev pub Store : Type 0
-Store = List ℕ → Term
+Store = Sub
 
 -- at entry each object is the variable of its name
 abbrev pub entry_store : Store

@@ -1,1 +1,5 @@
 pub mod EntryLaws
+pub mod examples
+pub mod NameLaws
+pub mod PutLaws
+pub mod SubLaws

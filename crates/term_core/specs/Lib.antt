@@ -1,2 +1,11 @@
 pub mod Entries
+pub mod Evaluation
+pub mod Names
+pub mod Opers
+pub mod Options
+pub mod Operations
+pub mod Sorts
+pub mod Substitution
 pub mod Terms
+pub mod Validity
+pub mod Values

@@ -4,14 +4,22 @@
 //! contracts see as the value and as the list: so a copy is plainly equal to what it copies.
 #![tactic(auto)]
 
+mod measuring;
 mod names;
+mod naming;
 mod obligation;
+mod replacing;
 mod sequent;
 mod sort;
+mod telling;
 mod term;
 
+pub use measuring::{depth, size};
 pub use names::{OpNames, SortEntry, SortNames};
+pub use naming::{free_names, has_name};
 pub use obligation::{Obligation, Obligations};
+pub use replacing::{Entries, Entry, put_entries, subst};
 pub use sequent::{Sequent, Var, Vars};
 pub use sort::{Sort, Sorts};
+pub use telling::{equal, same_oper, same_text};
 pub use term::{Oper, Term, Terms};

@@ -87,16 +87,13 @@ second_leaves p true e h = absurd cc
 guard_leaves : {p : Way} {events rest : List Event} (test : Bool) → test ≡ true → Leaves p events rest → Leaves (guarded test p) events rest
 guard_leaves test e h = first_leaves fails test e h
 
-same_text : (x : List ℕ) → bytes_eq x x ≡ true
-same_text x = (bytes_eq-Decides x x).1 refl
-
 same_texts_self : (xs : List (List ℕ)) → same_texts xs xs ≡ true
 same_texts_self [] = refl
-same_texts_self (x ∷ xs) = and_from (bytes_eq x x) (same_texts xs xs) (same_text x) (same_texts_self xs)
+same_texts_self (x ∷ xs) = and_from (bytes_eq x x) (same_texts xs xs) ((bytes_eq-Decides x x).1 refl) (same_texts_self xs)
 
 same_lexeme_self : (a : Lexeme) → same_lexeme a a ≡ true
-same_lexeme_self (a_name a) = same_text a
-same_lexeme_self (a_number a) = same_text a
+same_lexeme_self (a_name a) = (bytes_eq-Decides a a).1 refl
+same_lexeme_self (a_number a) = (bytes_eq-Decides a a).1 refl
 same_lexeme_self (a_word a) = true_same word_row.the_type a a refl
 same_lexeme_self (a_mark a) = true_same mark_row.the_type a a refl
 

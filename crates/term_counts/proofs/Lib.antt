@@ -1,0 +1,4 @@
+pub mod CountSteps
+pub mod CapLaws
+pub mod SizeLaws
+pub mod DepthLaws

@@ -1,0 +1,10 @@
+pub mod Agreement
+pub mod Composition
+pub mod Defaults
+pub mod Freshness
+pub mod Meanings
+pub mod Membership
+pub mod PutValues
+pub mod Quantifiers
+pub mod Settling
+pub mod ValueLaws
