@@ -1,5 +1,5 @@
-//! Tests of the public calls of the crates below the reader: what no clause says of them, as that
-//! each can succeed with ample memory. They stand in one crate, since a crate with tests is proved
+//! Tests of the public calls of all other crates: what no clause says of them, as that each can
+//! succeed with ample memory. They stand in one crate, since a crate with tests is proved
 //! twice.
 #![tactic(auto)]
 
@@ -9,6 +9,8 @@ mod attributes;
 mod bases;
 #[cfg(test)]
 mod edges;
+#[cfg(test)]
+mod runs;
 #[cfg(test)]
 mod scripts;
 #[cfg(test)]

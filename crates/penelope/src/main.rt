@@ -6,17 +6,9 @@ ghost use Rattle.outside.specs.declared.status.Status.TheVariants.{NoMemory};
 ghost use Rattle.outside.specs.Statuses.{code_of};
 ghost use Rattle.penelope_cli.specs.Promises.{Run, Keeps};
 
-mod check;
-mod obligations;
-mod report;
-#[cfg(test)]
-mod tests;
-mod top;
-mod words;
-
 use base_kit::{Memory, Steps, Tally};
-pub use check::Judgement;
 use outside::{FileShelf, Shelf, Sink, Status, StdSink};
+use penelope_cli::penelope;
 use std::alloc::Global;
 use std::env;
 use std::io::ErrorKind;
@@ -24,7 +16,6 @@ use std::marker::Brand;
 use std::process::ExitCode;
 use std::rt::Env;
 use std::sync::ledger::{Blank, Ledger};
-pub use top::penelope;
 
 // The program with a ledger of its own, over any shelf and any sink. Without memory for the words it
 // does nothing.

@@ -1,9 +1,9 @@
 // Whole runs over a shelf and a sink in memory.
 ghost use Rattle.std.specs.Prelude.{◌≡◌, ◌<◌};
 
-use crate::top::penelope;
 use base_kit::{Memory, Steps, Tally};
 use outside::{MemShelf, MemSink};
+use penelope_cli::penelope;
 use std::alloc::Global;
 use std::marker::Brand;
 use std::sync::ledger::{Blank, Ledger};
