@@ -37,7 +37,7 @@ fn same_vars(xs: &[Var], ys: &[Var]) -> bool
 
 // Whether two sequents are the same, as they are written.
 fn same_sequent(a: &Sequent, b: &Sequent) -> bool
-    ensures { result ≡ same_sequent a.now b.now }
+    ensures { IsTrue result ↔ (a.now ≡ b.now) }
 {
     equal(&a.goal, &b.goal)
         && equal_all(a.hyps.as_slice(), b.hyps.as_slice())

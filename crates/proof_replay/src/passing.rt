@@ -1,6 +1,7 @@
 // One pass: each that has taken none takes the first of what is left that fits it.
-ghost use Rattle.std.specs.Prelude.{◌≡◌, ◌<◌, ◌^◌, ℕ, List, map, length, nat_eq, IfOk, Option, Some, None};
+ghost use Rattle.std.specs.Prelude.{◌≡◌, ◌<◌, ◌^◌, ℕ, List, map, length, nat_eq, ◌∷◌, IfOk, OnOk, Option, Some, None};
 ghost use Rattle.std.specs.HashSet as bag;
+ghost use Rattle.std.specs.Map.{lookup, remove_entry};
 ghost use Rattle.proof_replay.specs.Carrying.{is_taken, untaken, pass};
 ghost use Rattle.proof_replay.specs.Queues.{fits_label, Queued, taken_by, left_by};
 
@@ -13,11 +14,7 @@ use std::hash::Hash;
 pub fn no_takes<T>(alloc: Global, proofs: &[T]) -> Result<Vec<Option<u32>>, Memory>
     ensures { IfOk result (λ takes. takes.items ≡ map (λ p. None) proofs.now) }
 {
-    let mut takes = Vec::new(alloc);
-    for _ in proofs {
-        takes.push(None)?;
-    }
-    Ok(takes)
+    Ok(proofs.iter().map(|_| None).collect(alloc)?)
 }
 
 // The numbers that were taken.
@@ -31,6 +28,25 @@ fn numbers(alloc: Global, taken: &[Option<u32>]) -> Result<HashSet<u32>, Memory>
         }
     }
     Ok(numbers)
+}
+
+// Adds a number with its label, before those that are there.
+fn add<K: Eq + Hash + Drop>(
+    alloc: Global,
+    queues: &mut HashMap<K, Vec<u32>>,
+    label: K,
+    number: u32,
+) -> Result<(), Memory>
+    ensures { OnOk result ((l : List (K × ℕ)) → Queued K.eq queues.old l → Queued K.eq queues.new ((label, number) ∷ l)) }
+{
+    match queues.get_mut(&label) {
+        Some(queue) => queue.push(number)?,
+        None => {
+            let queue = vec![in alloc; number]?;
+            queues.insert(label, queue)?;
+        }
+    }
+    Ok(())
 }
 
 // The numbers of the labels that aren't taken, by label, the last one first.
@@ -48,7 +64,7 @@ fn queues<K: Eq + Hash + Drop>(
     while let Some(label) = rest.pop() {
         let number = rest.len() as u32;
         if !taken.contains(&number) {
-            queues.entry(label)?.or_insert(Vec::new(alloc)).push(number)?;
+            add(alloc, &mut queues, label, number)?;
         }
     }
     Ok(queues)
@@ -57,7 +73,7 @@ fn queues<K: Eq + Hash + Drop>(
 // The first number left with a label, which is then taken.
 fn first_left<K: Eq + Hash + Drop>(left: &mut HashMap<K, Vec<u32>>, label: &K) -> Option<u32>
     ensures { (l : List (K × ℕ)) → Queued K.eq left.old l
-        → (result ≡ taken_by K.eq (Some label.now) None l) × Queued K.eq left.new (left_by K.eq (Some label.now) None l) }
+        → (result ≡ lookup (K.eq label.now) l) × Queued K.eq left.new (remove_entry (K.eq label.now) l) }
 {
     left.get_mut(label)?.pop()
 }
