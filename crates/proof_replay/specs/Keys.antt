@@ -1,9 +1,7 @@
 -- Keys: how a proof names what it proves, within a unit or a lemma.
+use Rattle.base_kit.specs.Bytes.{dot}
 use Rattle.std.specs.Prelude.{ℕ, List, [], ◌∷◌, ◌++◌, decimal}
 use Rattle.term_core.specs.declared.obligation.Obligation.{Obligation}
-
-abbrev dot : ℕ
-dot = 46
 
 -- the cut's label, a dot and the ordinal, as `entry.1`; empty where both are, as for a lemma
 abbrev pub key_from : List ℕ → ℕ → List ℕ

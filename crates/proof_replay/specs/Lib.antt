@@ -2,6 +2,5 @@ pub mod Carrying
 pub mod Digests
 pub mod Keys
 pub mod Queues
-pub mod Sameness
 pub mod Sequents
 pub mod Words

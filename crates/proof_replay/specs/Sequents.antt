@@ -6,7 +6,7 @@ use Rattle.std.specs.Prelude.{◌≡◌, Bool, true}
 use Rattle.term_core.specs.contracts.sequent.Sequent as sequent
 use Rattle.term_core.specs.declared.sequent.Sequent.{Sequent}
 use Rattle.proof_replay.specs.Digests.{digest_of}
-use Rattle.proof_replay.specs.Sameness.{same, same_decides, same_is_equality}
+use Rattle.base_kit.specs.Sameness.{same, same_decides, same_is_equality}
 
 abbrev pub same_sequent : Sequent → Sequent → Bool
 same_sequent = same sequent.the_row.coded

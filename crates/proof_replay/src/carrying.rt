@@ -1,6 +1,6 @@
 // Carrying the proofs of one unit, or of one lemma.
 ghost use Rattle.std.specs.Prelude.{◌≡◌, ◌<◌, ◌^◌, length, IfOk};
-ghost use Rattle.proof_replay.specs.Carrying.{takes};
+ghost use Rattle.proof_replay.specs.Carrying.{takes, pass, fits_by_sequent, fits_by_key};
 
 use crate::labels::{laid_keys, laid_sequents, offered_keys, offered_sequents};
 use crate::passing::{no_takes, pass};
@@ -38,11 +38,35 @@ pub fn carry(alloc: Global, proofs: &[Laid], new: &[Obligation]) -> Result<Carri
     ensures { IfOk result (λ carried. carried.takes ≡ takes proofs.now new.now) }
 {
     let none = no_takes(alloc, proofs)?;
-    let wanted = laid_sequents(alloc, proofs)?;
-    let by_sequent = pass(alloc, &wanted, offered_sequents(alloc, new)?, &none)?;
-    let wanted = laid_keys(alloc, proofs)?;
-    let takes = pass(alloc, &wanted, offered_keys(alloc, new)?, &by_sequent)?;
+    let by_sequent = take_by_sequent(alloc, proofs, new, &none)?;
+    let takes = take_by_key(alloc, proofs, new, &by_sequent)?;
     Ok(Carried {
         takes: Takes::from(takes),
     })
+}
+
+fn take_by_sequent(
+    alloc: Global,
+    proofs: &[Laid],
+    new: &[Obligation],
+    taken: &[Option<u32>],
+) -> Result<Vec<Option<u32>>, Memory>
+    requires { length new.now < 2 ^ 32 }
+    ensures { IfOk result (λ takes. takes.items ≡ pass fits_by_sequent proofs.now new.now taken.now) }
+{
+    let wanted = laid_sequents(alloc, proofs)?;
+    pass(alloc, &wanted, offered_sequents(alloc, new)?, taken)
+}
+
+fn take_by_key(
+    alloc: Global,
+    proofs: &[Laid],
+    new: &[Obligation],
+    taken: &[Option<u32>],
+) -> Result<Vec<Option<u32>>, Memory>
+    requires { length new.now < 2 ^ 32 }
+    ensures { IfOk result (λ takes. takes.items ≡ pass fits_by_key proofs.now new.now taken.now) }
+{
+    let wanted = laid_keys(alloc, proofs)?;
+    pass(alloc, &wanted, offered_keys(alloc, new)?, taken)
 }
