@@ -47,7 +47,7 @@ module _ {P Q O N : Type 0} (f : P → Q) (g : O → N) (fits : Q → N → Bool
       (λ i. lookup-along g (fits (f p)) l i ∷ pass_over fits (map f ps) ts (others-along g (fits (f p)) l i))
       ∙ ap (λ r. lookup (λ o. fits (f p) (g o)) l ∷ r) (pass_over-along ps ts (remove_entry (λ o. fits (f p) (g o)) l))
 
-  pass-map : (ps : List P) (os : List O) (ts : List (Option ℕ)) → pass fits (map f ps) (map g os) ts ≡ pass (λ p o. fits (f p) (g o)) ps os ts
+  pub pass-map : (ps : List P) (os : List O) (ts : List (Option ℕ)) → pass fits (map f ps) (map g os) ts ≡ pass (λ p o. fits (f p) (g o)) ps os ts
   pass-map ps os ts =
       ap (pass_over fits (map f ps) ts) (ap (filter (λ e. not (is_taken ts e.1))) (numbered-map g 0 os) ∙ filter-along g (λ j. not (is_taken ts j)) (numbered_from 0 os))
       ∙ pass_over-along ps ts (untaken ts os)

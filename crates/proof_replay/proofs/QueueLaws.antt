@@ -83,7 +83,7 @@ popped ns v w None e f h =
     (sym (ap first none), out ∙ sym (ap (λ l. reverse (rest l)) none))
 
 module _ {K : Type 0} {eq : K → K → Bool} (laws : IsEquivalence eq) where
-  same_label : (label q : K) → eq label q ≡ true → eq label ≡ eq q
+  pub same_label : (label q : K) → eq label q ≡ true → eq label ≡ eq q
   same_label label q e i x = laws.congr label q x e i
 
 module _ {K S A : Type 0} {eq : K → K → Bool} (laws : IsEquivalence eq) where
