@@ -1,5 +1,6 @@
 pub mod BothPasses
 pub mod Fitting
+pub mod KeyLaws
 pub mod LeftLaws
 pub mod Pairing
 pub mod PassLaws

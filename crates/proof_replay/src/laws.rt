@@ -1,6 +1,6 @@
 // What holds of carrying. Each law is the contract of a function that does nothing.
 ghost use Rattle.std.specs.Bool.{Decides};
-ghost use Rattle.std.specs.Prelude.{◌≡◌, ◌<◌, ◌↔◌, ◌⊎◌, ℕ, List, length, take, slice_get, Some};
+ghost use Rattle.std.specs.Prelude.{◌≡◌, ◌<◌, ◌^◌, ◌↔◌, ◌⊎◌, ℕ, List, length, take, slice_get, Some};
 ghost use Rattle.term_core.specs.declared.obligation.Obligation.{Obligation};
 ghost use Rattle.term_core.specs.declared.sequent.Sequent.{Sequent};
 ghost use Rattle.proof_replay.specs.Carrying.{takes};
@@ -16,7 +16,8 @@ pub fn sequents_tell()
 
 /// Keys tell obligations: two are equal only where the cuts and the ordinals are.
 pub fn keys_tell_obligations()
-    ensures { (c d : List ℕ) (m n : ℕ) → key_from c m ≡ key_from d n → (c ≡ d) × (m ≡ n) }
+    ensures { (c d : List ℕ) (m n : ℕ) → m < 2 ^ 32 → n < 2 ^ 32
+        → key_from c m ≡ key_from d n → (c ≡ d) × (m ≡ n) }
 {}
 
 /// Each proof takes an obligation, or none.
