@@ -1,4 +1,6 @@
+pub mod AgainLaws
 pub mod BothPasses
+pub mod CarriedLists
 pub mod Fitting
 pub mod KeyLaws
 pub mod LeftLaws
