@@ -1,5 +1,5 @@
 -- Carrying again to the same obligations.
-use Rattle.std.proofs.Common.{◌≡◌, ℕ, zero, suc, ◌+◌, ◌<◌, ◌≤◌, List, [], ◌∷◌, filter, length, take, Bool, true, false, cond, ◌||◌, ◌==◌, nat_eq, Option, Some, None, ◌⊎◌, inl, inr, refl, ap, sym, ◌∙◌, arith, eqb, eqb-true, eq-eqb}
+use Rattle.std.proofs.Common.{◌≡◌, ℕ, zero, suc, ◌<◌, ◌≤◌, List, [], ◌∷◌, filter, length, take, Bool, true, false, cond, ◌==◌, Option, Some, None, ◌⊎◌, inl, inr, refl, ap, sym, ◌∙◌, arith, eqb, eqb-true, eq-eqb}
 use Rattle.std.proofs.lemmas.Bool.{cases_Bool, or_cases, or_left, or_right, or_parts}
 use Rattle.std.proofs.lemmas.Map.Made.{length-le_from_is_member}
 use Rattle.std.specs.Cmp.{nat_eq_equiv}
@@ -8,7 +8,7 @@ use Rattle.std.specs.Option.{option_map, option_map_or}
 use Rattle.std.specs.Prelude.{slice_get, is_some}
 use Rattle.term_core.specs.declared.obligation.Obligation.{Obligation}
 use Rattle.term_core.specs.declared.sequent.Sequent.{Sequent}
-use Rattle.proof_replay.proofs.BothPasses.{there, first_stays, in_first, none_first, no_first, taken_once, taken_below, both_long, first_long, taken_at, at_taken}
+use Rattle.proof_replay.proofs.BothPasses.{there, first_stays, in_first, none_first, no_first, taken_once, taken_below, both_long, taken_at}
 use Rattle.proof_replay.proofs.CarriedLists.{same_lists, all_some, none_of, one_more, stood, AllThere, all_there, carried_by, carried_long, carried_at, at_carried, carried_before, carries, same_count}
 use Rattle.proof_replay.proofs.Fitting.{laid_says, says_laid}
 use Rattle.proof_replay.proofs.SequentPairs.{firsts, standing, first_pairs, standing_at, pairs_taken, taken_pairs}
@@ -34,16 +34,16 @@ module _ (ps : List Laid) (new : List Obligation) where
   pub same_in_order : InOrder ps new → takes (carried ps new) new ≡ kept ps new
   same_in_order order =
       same_lists (takes (carried ps new) new) (kept ps new)
-        (both_long fits_by_sequent fits_by_key (carried ps new) new ∙ carried_long new (takes ps new) all_taken_there)
-        (λ i t e. let r = carried_at new (takes ps new) i t all_taken_there e in
-          pairs_taken (carried ps new) new i r.0 (proof_of r.1.0) r.1.0 r.1.1.1.1 r.1.1.1.0 refl (order i r.0 r.1.0 (e ∙ ap Some r.1.1.0) r.1.1.1.0)
-          ∙ ap Some (sym r.1.1.0))
+      (both_long fits_by_sequent fits_by_key (carried ps new) new ∙ carried_long new (takes ps new) all_taken_there)
+      (λ i t e. let r = carried_at new (takes ps new) i t all_taken_there e in
+      pairs_taken (carried ps new) new i r.0 (proof_of r.1.0) r.1.0 r.1.1.1.1 r.1.1.1.0 refl (order i r.0 r.1.0 (e ∙ ap Some r.1.1.0) r.1.1.1.0)
+      ∙ ap Some (sym r.1.1.0))
 
   pub in_order_same : takes (carried ps new) new ≡ kept ps new → InOrder ps new
   in_order_same same i j o e g =
       let r = carried_at new (takes ps new) i (Some j) all_taken_there e in
       let p : slice_get (carried ps new) i ≡ Some (proof_of o) = (let h = r.1.1.1.1 in let k = r.1.1.1.0 in let l = r.1.1.0 in
-            let m : r.0 ≡ j = cc in let n : slice_get new j ≡ Some r.1.0 = ap (slice_get new) (sym m) ∙ k in let q : r.1.0 ≡ o = cc in h ∙ ap (λ x. Some (proof_of x)) q) in
+      let m : r.0 ≡ j = cc in let n : slice_get new j ≡ Some r.1.0 = ap (slice_get new) (sym m) ∙ k in let q : r.1.0 ≡ o = cc in h ∙ ap (λ x. Some (proof_of x)) q) in
       taken_pairs (carried ps new) new i j (proof_of o) o p g refl (ap (λ ts. slice_get ts i) same ∙ e)
 
   -- ---- where each was carried by its sequent
@@ -53,7 +53,7 @@ module _ (ps : List Laid) (new : List Obligation) where
       let u = stood (takes ps new) i (Some j) e in
       let q = there (takes ps new) ps u.0 (Some j) (both_long fits_by_sequent fits_by_key ps new) u.1.0 in
       let count = same_count new o.sequent ps (takes ps new) u.0 (both_long fits_by_sequent fits_by_key ps new)
-            (λ b p t l h k. before b p t u.0 l h k u.1.0 (cases_Bool (is_laid_on o.sequent p))) in
+      (λ b p t l h k. before b p t u.0 l h k u.1.0 (cases_Bool (is_laid_on o.sequent p))) in
       ap (λ n. laid_on o.sequent (take n (carried ps new))) u.1.1
       ∙ (ap (λ l. length (filter (is_laid_on o.sequent) l)) (carried_before new (takes ps new) u.0 all_taken_there)
       ∙ (count ∙ taken_pairs ps new u.0 j q.0 o q.1 g (all u.0 j q.0 o q.1 g u.1.0) u.1.0))
@@ -63,6 +63,7 @@ module _ (ps : List Laid) (new : List Obligation) where
           let r = taken_below fits_by_sequent fits_by_key ps new b k t in
           let s : p.sequent ≡ Some r.0.sequent = all b k p r.0 h r.1 t in
           rw r.1 (sym d ∙ ap (λ q. option_map_or (λ t. same_sequent t o.sequent) q false) s)
+
       before : (b : ℕ) (p : Laid) (t : Option ℕ) (a : ℕ) → b < a → slice_get ps b ≡ Some p → slice_get (takes ps new) b ≡ Some t → Takes ps new a j
           → (is_laid_on o.sequent p ≡ true) ⊎ (is_laid_on o.sequent p ≡ false) → is_laid_on o.sequent p ≡ carries new o.sequent t
       before b p (Some k) a l h t ta (inl d) = d ∙ carries_it p k b h t true d
@@ -82,13 +83,15 @@ module _ (ps : List Laid) (new : List Obligation) where
       unlike : (s t : Sequent) (b : Bool) → same_sequent s t ≡ b → (s ≡ t → ⊥) → b ≡ false
       unlike s t true d h = absurd (h ((sequent_decides s t).0 d))
       unlike s t false d h = refl
+
       no_proofs : laid_on o.sequent (take i (carried ps new)) ≡ 0
       no_proofs = none_of (is_laid_on o.sequent) (carried ps new) i (λ d p l h.
           let r = at_carried new (takes ps new) d p all_taken_there h in
           ap (is_laid_on o.sequent) r.1.1.1.1 ∙ unlike r.1.0.sequent o.sequent _ refl (λ s.
-            let same : r.0 ≡ j = apart r.0 j r.1.0 o r.1.1.1.0 g s in
-            let one : d ≡ i = kept_once d i j (r.1.1.0 ∙ ap (λ n. Some (Some n)) same) e in
-            omega (arith, l, one)))
+          let same : r.0 ≡ j = apart r.0 j r.1.0 o r.1.1.1.0 g s in
+          let one : d ≡ i = kept_once d i j (r.1.1.0 ∙ ap (λ n. Some (Some n)) same) e in
+          omega (arith, l, one)))
+
       no_obligations : having o.sequent (take j new) ≡ 0
       no_obligations = none_of (λ q. same_sequent o.sequent q.sequent) new j (λ d q l h. unlike o.sequent q.sequent _ refl (λ s.
           let same : d ≡ j = apart d j q o h g (sym s) in omega (arith, l, same)))

@@ -1,6 +1,7 @@
 pub mod AgainLaws
 pub mod BothPasses
 pub mod CarriedLists
+pub mod Examples
 pub mod Fitting
 pub mod KeyLaws
 pub mod LeftLaws

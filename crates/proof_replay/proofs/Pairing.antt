@@ -53,7 +53,7 @@ module _ {K : Type 0} (eq : K → K → Bool) (s : K) where
     where
       by : (b : Bool) → slice_get (numbers_of eq s (numbered_from (m + 1) ks)) (length (filter (eq s) (take d ks))) ≡ Some ((m + 1) + d)
           → slice_get (map (λ e. e.1) (cond b ((x, m) ∷ filter (λ e. eq s e.0) (numbered_from (m + 1) ks)) (filter (λ e. eq s e.0) (numbered_from (m + 1) ks))))
-              (length (cond b (x ∷ filter (eq s) (take d ks)) (filter (eq s) (take d ks)))) ≡ Some (m + suc d)
+          (length (cond b (x ∷ filter (eq s) (take d ks)) (filter (eq s) (take d ks)))) ≡ Some (m + suc d)
       by true ih = ih ∙ ap Some (omega arith)
       by false ih = ih ∙ ap Some (omega arith)
 

@@ -1,5 +1,5 @@
 -- The first pass: of the proofs that were laid on one sequent, and of the obligations that have it, each proof takes the obligation that stands as it does.
-use Rattle.std.proofs.Common.{◌≡◌, ℕ, ◌+◌, List, [], ◌∷◌, map, filter, length, take, Bool, true, false, not, cond, Option, Some, None, ◌⊎◌, inl, inr, refl, ap, sym, ◌∙◌, arith}
+use Rattle.std.proofs.Common.{◌≡◌, ℕ, List, [], ◌∷◌, map, filter, length, take, Bool, true, false, not, cond, Option, Some, None, ◌⊎◌, inl, inr, refl, ap, sym, ◌∙◌, arith}
 use Rattle.std.proofs.lemmas.List.{take-map}
 use Rattle.std.proofs.lemmas.Option.{slice_get-map}
 use Rattle.std.specs.Option.{option_map}
@@ -10,9 +10,9 @@ use Rattle.proof_replay.proofs.BothPasses.{first_taken, InFirst, InSecond, none_
 use Rattle.proof_replay.proofs.Fitting.{says_laid}
 use Rattle.proof_replay.proofs.Pairing.{pairs, stands, stands_once}
 use Rattle.proof_replay.proofs.PassLaws.{pass-map}
-use Rattle.proof_replay.specs.Carrying.{is_taken, is_laid_on, numbered_from, untaken, pass_over, fits_by_sequent, fits_by_key}
+use Rattle.proof_replay.specs.Carrying.{is_taken, numbered_from, pass_over, fits_by_sequent, fits_by_key}
 use Rattle.proof_replay.specs.Queues.{fits_label, numbers_of}
-use Rattle.proof_replay.specs.Sequents.{same_sequent, sequent_equality, sequent_decides}
+use Rattle.proof_replay.specs.Sequents.{same_sequent, sequent_equality}
 use Rattle.proof_replay.specs.Words.{Takes, laid_on, having}
 use Rattle.proof_replay.specs.declared.carrying.Laid.{Laid}
 
@@ -57,14 +57,14 @@ module _ (ps : List Laid) (new : List Obligation) where
   first_pairs i p s h e =
       ap (λ ts. slice_get ts i) to_labels
       ∙ (pairs sequent_equality s (map (λ p. p.sequent) ps) (numbered_from 0 (map (λ o. o.sequent) new)) i p.sequent
-          (slice_get-map (λ (p : Laid). p.sequent) ps i ∙ ap (option_map (λ p. p.sequent)) h) (says_laid s p e)
+      (slice_get-map (λ (p : Laid). p.sequent) ps i ∙ ap (option_map (λ p. p.sequent)) h) (says_laid s p e)
       ∙ ap (λ n. Some (slice_get (standing s new) n))
-          (ap (λ l. length (filter (λ w. fits_label same_sequent w s) l)) (take-map (λ (p : Laid). p.sequent) i ps) ∙ count_map (λ w. fits_label same_sequent w s) (λ (p : Laid). p.sequent) (take i ps)))
+      (ap (λ l. length (filter (λ w. fits_label same_sequent w s) l)) (take-map (λ (p : Laid). p.sequent) i ps) ∙ count_map (λ w. fits_label same_sequent w s) (λ (p : Laid). p.sequent) (take i ps)))
 
   pub standing_at : (j : ℕ) (o : Obligation) → slice_get new j ≡ Some o → slice_get (standing o.sequent new) (having o.sequent (take j new)) ≡ Some j
   standing_at j o h =
       ap (slice_get (standing o.sequent new))
-        (sym (ap (λ l. length (filter (same_sequent o.sequent) l)) (take-map (λ (o : Obligation). o.sequent) j new) ∙ count_map (same_sequent o.sequent) (λ (o : Obligation). o.sequent) (take j new)))
+      (sym (ap (λ l. length (filter (same_sequent o.sequent) l)) (take-map (λ (o : Obligation). o.sequent) j new) ∙ count_map (same_sequent o.sequent) (λ (o : Obligation). o.sequent) (take j new)))
       ∙ (stands same_sequent o.sequent 0 (map (λ o. o.sequent) new) j o.sequent (slice_get-map (λ (o : Obligation). o.sequent) new j ∙ ap (option_map (λ o. o.sequent)) h) (sequent_equality.refl o.sequent)
       ∙ ap Some (omega arith))
 
@@ -73,7 +73,7 @@ module _ (ps : List Laid) (new : List Obligation) where
       → laid_on o.sequent (take i ps) ≡ having o.sequent (take j new) → Takes ps new i j
   pairs_taken i j p o h g e n =
       first_stays fits_by_sequent fits_by_key ps new i j p h
-        (first_pairs i p o.sequent h e ∙ ap Some (ap (slice_get (standing o.sequent new)) n ∙ standing_at j o g))
+      (first_pairs i p o.sequent h e ∙ ap Some (ap (slice_get (standing o.sequent new)) n ∙ standing_at j o g))
 
   pub taken_pairs : (i j : ℕ) (p : Laid) (o : Obligation) → slice_get ps i ≡ Some p → slice_get new j ≡ Some o → p.sequent ≡ Some o.sequent
       → Takes ps new i j → laid_on o.sequent (take i ps) ≡ having o.sequent (take j new)

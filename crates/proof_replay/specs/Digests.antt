@@ -1,9 +1,8 @@
 -- The digest of a sequent, by which it is sought: equal sequents have equal digests. The variables aren't in it.
 use mir.Syntax.{w128}
 use Rattle.std.specs.Int.{cast_unsigned}
-use Rattle.std.specs.Prelude.{ℕ, ℤ, List, ◌*◌, ◌/◌, ◌%◌, ◌^◌, fold, bit_xor, Bool, true, false, cond}
+use Rattle.std.specs.Prelude.{ℕ, ℤ, List, ◌*◌, ◌/◌, ◌%◌, ◌^◌, fold, bit_xor, cond}
 use Rattle.term_core.specs.declared.sequent.Sequent.{Sequent}
-use Rattle.term_core.specs.declared.term.Oper.{Oper}
 use Rattle.term_core.specs.declared.term.Term.{Term}
 use Rattle.term_core.specs.declared.term.Term.TheFolds.{fold-Term}
 use Rattle.term_core.specs.declared.term.Term.TheOpen.{Term-F}

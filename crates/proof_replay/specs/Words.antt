@@ -1,5 +1,5 @@
 -- Words for what holds of carrying.
-use Rattle.std.specs.Prelude.{◌≡◌, ◌<◌, ℕ, List, filter, length, take, slice_get, is_some, Bool, Option, Some, None}
+use Rattle.std.specs.Prelude.{◌≡◌, ◌<◌, ℕ, List, filter, length, take, slice_get, is_some, Option, Some, None}
 use Rattle.std.specs.List.{filter_map}
 use Rattle.std.specs.Option.{option_map, option_and_then}
 use Rattle.term_core.specs.declared.obligation.Obligation.{Obligation}

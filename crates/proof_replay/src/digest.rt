@@ -47,11 +47,17 @@ fn digest_of_term(term: &Term) -> u64
         }
         Term::All(name, low, high, body) => {
             let digest = mixed(mixed_text(5, name.as_bytes()), digest_of_term(low.get()));
-            mixed(mixed(digest, digest_of_term(high.get())), digest_of_term(body.get()))
+            mixed(
+                mixed(digest, digest_of_term(high.get())),
+                digest_of_term(body.get()),
+            )
         }
         Term::Some(name, low, high, body) => {
             let digest = mixed(mixed_text(6, name.as_bytes()), digest_of_term(low.get()));
-            mixed(mixed(digest, digest_of_term(high.get())), digest_of_term(body.get()))
+            mixed(
+                mixed(digest, digest_of_term(high.get())),
+                digest_of_term(body.get()),
+            )
         }
     }
 }

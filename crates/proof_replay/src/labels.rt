@@ -39,9 +39,9 @@ fn same_vars(xs: &[Var], ys: &[Var]) -> bool
 fn same_sequent(a: &Sequent, b: &Sequent) -> bool
     ensures { IsTrue result ↔ (a.now ≡ b.now) }
 {
-    equal(&a.goal, &b.goal)
+    same_vars(a.vars.as_slice(), b.vars.as_slice())
         && equal_all(a.hyps.as_slice(), b.hyps.as_slice())
-        && same_vars(a.vars.as_slice(), b.vars.as_slice())
+        && equal(&a.goal, &b.goal)
 }
 
 /// A sequent that is sought by its digest, and then compared.
@@ -90,10 +90,7 @@ pub fn laid_sequents<'a>(
 }
 
 /// The sequents of obligations.
-pub fn offered_sequents<'a>(
-    alloc: Global,
-    new: &'a [Obligation],
-) -> Result<Vec<Sought<'a>>, Memory>
+pub fn offered_sequents<'a>(alloc: Global, new: &'a [Obligation]) -> Result<Vec<Sought<'a>>, Memory>
     ensures { IfOk result (λ offered. map (λ s. s.0.now) offered.items ≡ map (λ o. o.sequent) new.now) }
 {
     let mut offered = Vec::new(alloc);

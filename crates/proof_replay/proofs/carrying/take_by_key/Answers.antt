@@ -9,5 +9,5 @@ use Rattle.proof_replay.proofs.carrying.take_by_key.Goals as goal
 pub returns : goal.returns
 returns c = subst (λ l. IfOk c.pass.result (λ t. t.items ≡ l))
     (labels_find _ bytes_eq (λ v. v.items) (λ a b. refl) (λ p. Some p.key) key_of _ _ c.args.proofs.now c.args.new.now c.args.taken.now
-      (ap (λ ws. map (option_map (λ v. v.items)) ws) c.deref.ensures.value ∙ c.in_ok-wanted.ensures) c.in_ok-offered_keys.ensures)
+    (ap (λ ws. map (option_map (λ v. v.items)) ws) c.deref.ensures.value ∙ c.in_ok-wanted.ensures) c.in_ok-offered_keys.ensures)
     c.pass.ensures

@@ -8,5 +8,5 @@ use Rattle.proof_replay.proofs.carrying.take_by_sequent.Goals as goal
 pub returns : goal.returns
 returns c = subst (λ l. IfOk c.pass.result (λ t. t.items ≡ l))
     (labels_find _ same_sequent (λ s. s.0.now) (λ a b. refl) (λ p. p.sequent) (λ o. o.sequent) _ _ c.args.proofs.now c.args.new.now c.args.taken.now
-      (ap (λ ws. map (option_map (λ s. s.0.now)) ws) c.deref.ensures.value ∙ c.in_ok-wanted.ensures) c.in_ok-offered_sequents.ensures)
+    (ap (λ ws. map (option_map (λ s. s.0.now)) ws) c.deref.ensures.value ∙ c.in_ok-wanted.ensures) c.in_ok-offered_sequents.ensures)
     c.pass.ensures

@@ -1,6 +1,4 @@
-use Rattle.std.proofs.Common.{Option, None, Some, subst, sym}
 use Rattle.proof_replay.proofs.QueueLaws.{none_found}
-use Rattle.proof_replay.specs.Queues.{Queued, taken_by, left_by}
 use Rattle.proof_replay.proofs.passing.next.Goals as goal
 
 pub returns-in-None-Some : goal.returns-in-None-Some

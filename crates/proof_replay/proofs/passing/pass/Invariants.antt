@@ -10,5 +10,5 @@ abbrev pub invariant-loop-label : goal.invariant-loop-label
 invariant-loop-label g l =
     let fits = fits_label g.K.PartialEq.eq in
     (left : List (g.row.K.Denot × ℕ)) × (Queued g.K.PartialEq.eq l.left left
-      × (l.takes.items ++ pass_over fits (iter_rest (zip_first l.label-iterator)) (iter_rest (zip_second l.label-iterator)) left
-        ≡ pass fits l.fn.wanted l.fn.offered.items l.fn.taken))
+    × (l.takes.items ++ pass_over fits (iter_rest (zip_first l.label-iterator)) (iter_rest (zip_second l.label-iterator)) left
+    ≡ pass fits l.fn.wanted l.fn.offered.items l.fn.taken))

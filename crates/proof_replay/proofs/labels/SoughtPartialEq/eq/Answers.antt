@@ -1,5 +1,5 @@
 use Rattle.std.proofs.lemmas.Bool.Decides.{same_from_decides}
-use Rattle.proof_replay.specs.Sequents.{same_sequent, sequent_decides}
+use Rattle.proof_replay.specs.Sequents.{sequent_decides}
 use Rattle.proof_replay.proofs.labels.SoughtPartialEq.eq.Goals as goal
 
 pub returns : goal.returns
