@@ -19,12 +19,19 @@ type New = (&'static str, u32, Told);
 type Row = (&'static [Old], &'static [New], &'static [Option<u32>]);
 
 const A: Told = ("", "A");
+
 const B: Told = ("", "B");
+
 const C: Told = ("", "C");
+
 const ZERO: Told = ("", "0 >= 0");
+
 const WITH: Told = ("B", "1 >= 0");
+
 const WITHOUT: Told = ("not B", "0 >= 0");
+
 const CALLED: Told = ("X@call1 = 1", "X@call1 = 1");
+
 const CALLED_ANEW: Told = ("X@call1 > 0", "X@call1 = 1");
 
 const ROWS: &[Row] = &[
@@ -52,7 +59,11 @@ const ROWS: &[Row] = &[
     ),
     // the keys are permuted
     (
-        &[("entry.1", Some(A)), ("entry.2", Some(B)), ("loop1.1", Some(C))],
+        &[
+            ("entry.1", Some(A)),
+            ("entry.2", Some(B)),
+            ("loop1.1", Some(C)),
+        ],
         &[("entry", 1, C), ("entry", 2, A), ("loop1", 1, B)],
         &[Some(1), Some(2), Some(0)],
     ),
@@ -63,13 +74,21 @@ const ROWS: &[Row] = &[
         &[Some(0), Some(1)],
     ),
     (
-        &[("entry.1", Some(A)), ("entry.2", Some(B)), ("entry.3", Some(A))],
+        &[
+            ("entry.1", Some(A)),
+            ("entry.2", Some(B)),
+            ("entry.3", Some(A)),
+        ],
         &[("entry", 1, B), ("entry", 2, A), ("entry", 3, A)],
         &[Some(1), Some(0), Some(2)],
     ),
     // a third on the sequent goes by its key
     (
-        &[("entry.1", Some(A)), ("entry.2", Some(A)), ("entry.3", Some(A))],
+        &[
+            ("entry.1", Some(A)),
+            ("entry.2", Some(A)),
+            ("entry.3", Some(A)),
+        ],
         &[("entry", 1, A), ("entry", 2, A), ("entry", 3, B)],
         &[Some(0), Some(1), Some(2)],
     ),
@@ -92,7 +111,11 @@ const ROWS: &[Row] = &[
     ),
     // a lemma's one obligation
     (&[("", Some(A))], &[("", 0, B)], &[Some(0)]),
-    (&[("", Some(A)), ("", Some(B))], &[("", 0, B)], &[None, Some(0)]),
+    (
+        &[("", Some(A)), ("", Some(B))],
+        &[("", 0, B)],
+        &[None, Some(0)],
+    ),
     (&[], &[("entry", 1, A)], &[]),
 ];
 
@@ -131,7 +154,10 @@ fn laid(alloc: Global, old: &Old) -> Result<Laid, Memory> {
     let (key, told) = *old;
     let key = text(alloc, key)?;
     Ok(match told {
-        Some(told) => Laid { key, sequent: Some(sequent(alloc, told)?) },
+        Some(told) => Laid {
+            key,
+            sequent: Some(sequent(alloc, told)?),
+        },
         None => Laid { key, sequent: None },
     })
 }

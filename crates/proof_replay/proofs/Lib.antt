@@ -8,5 +8,6 @@ pub mod LeftLaws
 pub mod Pairing
 pub mod PassLaws
 pub mod QueueLaws
+pub mod ReadAnew
 pub mod SequentPairs
 pub mod TakingLaws

@@ -52,6 +52,10 @@ carried proofs new = filter_map (option_and_then (λ j. option_map proof_of (sli
 abbrev pub kept : List Laid → List Obligation → List (Option ℕ)
 kept proofs new = filter is_some (takes proofs new)
 
+-- a proof as it is read, with its key alone
+abbrev pub unlaid : Laid → Laid
+unlaid proof = record proof { sequent = None }
+
 -- of the carried proofs and of the obligations, those with one sequent stand in one order, with no obligation left out
 abbrev pub InOrder : List Laid → List Obligation → Type 0
 InOrder proofs new = (i j : ℕ) (o : Obligation) → slice_get (kept proofs new) i ≡ Some (Some j) → slice_get new j ≡ Some o

@@ -1,12 +1,12 @@
 // What holds of carrying. Each law is the contract of a function that does nothing.
 ghost use Rattle.std.specs.Bool.{Decides};
-ghost use Rattle.std.specs.Prelude.{◌≡◌, ◌<◌, ◌^◌, ◌↔◌, ◌⊎◌, ℕ, List, length, take, slice_get, Some};
+ghost use Rattle.std.specs.Prelude.{◌≡◌, ◌<◌, ◌^◌, ◌↔◌, ◌⊎◌, ℕ, List, map, length, take, slice_get, Some};
 ghost use Rattle.term_core.specs.declared.obligation.Obligation.{Obligation};
 ghost use Rattle.term_core.specs.declared.sequent.Sequent.{Sequent};
 ghost use Rattle.proof_replay.specs.Carrying.{takes};
 ghost use Rattle.proof_replay.specs.Keys.{key_from, key_of};
 ghost use Rattle.proof_replay.specs.Sequents.{same_sequent};
-ghost use Rattle.proof_replay.specs.Words.{Takes, IsOrphan, IsTaken, IsTakenBefore, laid_on, having, KeysApart, SequentsApart, carried, kept, InOrder, AllBySequent};
+ghost use Rattle.proof_replay.specs.Words.{Takes, IsOrphan, IsTaken, IsTakenBefore, laid_on, having, KeysApart, SequentsApart, carried, kept, unlaid, InOrder, AllBySequent};
 ghost use Rattle.proof_replay.specs.declared.carrying.Laid.{Laid as Proof};
 
 /// The test of sequents that carrying makes holds exactly of equal ones.
@@ -69,6 +69,13 @@ pub fn carried_keys_are_distinct()
     ensures { (proofs : List Proof) (new : List Obligation) → KeysApart new
         → (i k : ℕ) (p q : Proof) → slice_get (carried proofs new) i ≡ Some p → slice_get (carried proofs new) k ≡ Some q
         → p.key ≡ q.key → i ≡ k }
+{}
+
+/// Where the obligations have distinct keys, each carried proof takes what it took when its text is
+/// read anew, and nothing is known of it but its key.
+pub fn carried_proofs_are_laid_there()
+    ensures { (proofs : List Proof) (new : List Obligation) → KeysApart new
+        → takes (map unlaid (carried proofs new)) new ≡ kept proofs new }
 {}
 
 /// When proofs are carried again to the same obligations, each takes what it took, exactly where
