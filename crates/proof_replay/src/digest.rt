@@ -1,6 +1,6 @@
 // The digests of sequents, by which they are sought.
 ghost use Rattle.std.specs.Prelude.{◌≡◌, fold};
-ghost use Rattle.proof_replay.specs.Digests.{mixed, mixed_all, low_part, digest_of_term, digest_of_terms, digest_of};
+ghost use Rattle.proof_replay.specs.Digests.{mixed, mixed_all, low_part, digest_of_term, digest_of};
 
 use term_core::{Sequent, Term, oper_number};
 
