@@ -63,9 +63,10 @@ fn queues<K: Eq + Hash + Drop>(
     let mut rest = offered;
     while let Some(label) = rest.pop() {
         let number = rest.len() as u32;
-        if !taken.contains(&number) {
-            add(alloc, &mut queues, label, number)?;
+        if taken.contains(&number) {
+            continue;
         }
+        add(alloc, &mut queues, label, number)?;
     }
     Ok(queues)
 }

@@ -14,6 +14,20 @@ loop-label-init g c =
           (none_queued_at_first eq c.new-queues.result c.new-queues.ensures.empty);
     }
 
+pub loop-label-preserved-then-contains : goal.loop-label-preserved-then-contains
+loop-label-preserved-then-contains g c =
+    let labels = c.args.offered.items in
+    let whole = c.loop-label.rest.items in
+    let rest = c.pop.new.self.items in
+    let n : c.len.result ≡ length rest = c.len.ensures ∙ c.pop.new.self.ok.0 in
+    let next = one_before whole rest c.in-Some.label labels c.in-Some.ensures.items c.loop-label.invariant.front in
+    record {
+      front = next.0;
+      queued = λ t h.
+          let taken : is_taken t (length rest) ≡ true = ap (is_taken t) (sym n) ∙ (sym (h c.len.result) ∙ (sym c.contains.ensures ∙ c.if-contains.true)) in
+          queued_as g.K.PartialEq.eq c.loop-label.queues (left_from (length whole) t labels) (left_from (length rest) t labels) (next.1 t true taken) (c.loop-label.invariant.queued t h);
+    }
+
 pub loop-label-preserved : goal.loop-label-preserved
 loop-label-preserved g c =
     let labels = c.args.offered.items in
@@ -24,21 +38,7 @@ loop-label-preserved g c =
     record {
       front = next.0;
       queued = λ t h.
-          let taken : is_taken t (length rest) ≡ true = ap (is_taken t) (sym n) ∙ (sym (h c.len.result) ∙ (sym c.contains.ensures ∙ c.if-not-contains.false)) in
-          queued_as g.K.PartialEq.eq c.loop-label.queues (left_from (length whole) t labels) (left_from (length rest) t labels) (next.1 t true taken) (c.loop-label.invariant.queued t h);
-    }
-
-pub loop-label-preserved-in-Continue-1 : goal.loop-label-preserved-in-Continue-1
-loop-label-preserved-in-Continue-1 g c =
-    let labels = c.args.offered.items in
-    let whole = c.loop-label.rest.items in
-    let rest = c.pop.new.self.items in
-    let n : c.len.result ≡ length rest = c.len.ensures ∙ c.pop.new.self.ok.0 in
-    let next = one_before whole rest c.in-Some.label labels c.in-Some.ensures.items c.loop-label.invariant.front in
-    record {
-      front = next.0;
-      queued = λ t h.
-          let left : is_taken t (length rest) ≡ false = ap (is_taken t) (sym n) ∙ (sym (h c.len.result) ∙ (sym c.contains.ensures ∙ c.if-not-contains.true)) in
+          let left : is_taken t (length rest) ≡ false = ap (is_taken t) (sym n) ∙ (sym (h c.len.result) ∙ (sym c.contains.ensures ∙ c.if-contains.false)) in
           let after = left_from (length whole) t labels in
           queued_as g.K.PartialEq.eq c.add.new.queues ((c.in-Some.label, c.len.result) ∷ after) (left_from (length rest) t labels)
           (next.1 t false left ∙ ap (λ m. (c.in-Some.label, m) ∷ after) (sym n)) (c.in_ok-add.ensures after (c.loop-label.invariant.queued t h));
