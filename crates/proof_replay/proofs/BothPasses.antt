@@ -137,16 +137,16 @@ module _ {P O : Type 0} (fits after : P → O → Bool) (ps : List P) (os : List
       let r = no_fit fits ps none (untaken none os) i p o j h (none_at ps i p h) e (is_left none os o j g (none_taken ps j)) f in
       (r.0, (r.1.0, (r.1.1.0, (r.1.1.1.0, r.1.1.1.1.1))))
 
-  -- what fits then is taken
+  -- what fits then is taken, in the second pass by an earlier one
   pub no_second : (i j : ℕ) (p : P) (o : O) → slice_get ps i ≡ Some p → slice_get both_taken i ≡ Some None → slice_get os j ≡ Some o → after p o ≡ true
-      → (k : ℕ) × (slice_get both_taken k ≡ Some (Some j))
+      → (k : ℕ) × ((slice_get both_taken k ≡ Some (Some j)) × ((k < i) ⊎ (slice_get first_taken k ≡ Some (Some j))))
   no_second i j p o h e g f = by (cases_Bool (is_taken first_taken j))
     where
-      by : (is_taken first_taken j ≡ true) ⊎ (is_taken first_taken j ≡ false) → (k : ℕ) × (slice_get both_taken k ≡ Some (Some j))
+      by : (is_taken first_taken j ≡ true) ⊎ (is_taken first_taken j ≡ false) → (k : ℕ) × ((slice_get both_taken k ≡ Some (Some j)) × ((k < i) ⊎ (slice_get first_taken k ≡ Some (Some j))))
       by (inl t) =
           let k = taken_at first_taken j t in
           let q = there first_taken ps k.0 (Some j) first_long k.1 in
-          (k.0, first_stays k.0 j q.0 q.1 k.1)
+          (k.0, (first_stays k.0 j q.0 q.1 k.1, inr k.1))
       by (inr t) =
           let r = no_fit after ps first_taken (untaken first_taken os) i p o j h (none_first i p h e) e (is_left first_taken os o j g t) f in
-          (r.0, r.1.1.1.1.1.1)
+          (r.0, (r.1.1.1.1.1.1, inl r.1.1.0))

@@ -38,6 +38,16 @@ KeysApart new = (j k : ℕ) (o q : Obligation) → slice_get new j ≡ Some o �
 abbrev pub SequentsApart : List Obligation → Type 0
 SequentsApart new = (j k : ℕ) (o q : Obligation) → slice_get new j ≡ Some o → slice_get new k ≡ Some q → o.sequent ≡ q.sequent → j ≡ k
 
+-- ---- reading
+
+-- a proof as it is read, with its key alone
+abbrev pub unlaid : Laid → Laid
+unlaid proof = record proof { sequent = None }
+
+-- no proof before the one of number i has its key
+abbrev pub IsFirstOfKey : List Laid → ℕ → Laid → Type 0
+IsFirstOfKey proofs i p = (k : ℕ) (q : Laid) → k < i → slice_get proofs k ≡ Some q → q.key ≡ p.key → ⊥
+
 -- ---- carrying again
 
 -- a proof with the obligation's key, laid on its sequent
@@ -51,10 +61,6 @@ carried proofs new = filter_map (option_and_then (λ j. option_map proof_of (sli
 -- what these took
 abbrev pub kept : List Laid → List Obligation → List (Option ℕ)
 kept proofs new = filter is_some (takes proofs new)
-
--- a proof as it is read, with its key alone
-abbrev pub unlaid : Laid → Laid
-unlaid proof = record proof { sequent = None }
 
 -- of the carried proofs and of the obligations, those with one sequent stand in one order, with no obligation left out
 abbrev pub InOrder : List Laid → List Obligation → Type 0

@@ -6,7 +6,7 @@ ghost use Rattle.term_core.specs.declared.sequent.Sequent.{Sequent};
 ghost use Rattle.proof_replay.specs.Carrying.{takes};
 ghost use Rattle.proof_replay.specs.Keys.{key_from, key_of};
 ghost use Rattle.proof_replay.specs.Sequents.{same_sequent};
-ghost use Rattle.proof_replay.specs.Words.{Takes, IsOrphan, IsTaken, IsTakenBefore, laid_on, having, KeysApart, SequentsApart, carried, kept, unlaid, InOrder, AllBySequent};
+ghost use Rattle.proof_replay.specs.Words.{Takes, IsOrphan, IsTaken, IsTakenBefore, laid_on, having, KeysApart, SequentsApart, unlaid, IsFirstOfKey, carried, kept, InOrder, AllBySequent};
 ghost use Rattle.proof_replay.specs.declared.carrying.Laid.{Laid as Proof};
 
 /// The test of sequents that carrying makes holds exactly of equal ones.
@@ -62,6 +62,15 @@ pub fn equal_sequents_pair_in_order()
     ensures first { (proofs : List Proof) (new : List Obligation) (i j : ℕ) (p : Proof) (o : Obligation)
         → slice_get proofs i ≡ Some p → slice_get new j ≡ Some o → p.sequent ≡ Some o.sequent
         → laid_on o.sequent (take i proofs) ≡ 0 → having o.sequent (take j new) ≡ 0 → Takes proofs new i j }
+{}
+
+/// When a document is read for the first time, no proof was laid on a sequent. Then, where the
+/// obligations have distinct keys, a proof takes the obligation of its key exactly where it is the
+/// first proof of that key.
+pub fn first_readings_go_by_keys()
+    ensures { (proofs : List Proof) (new : List Obligation) → KeysApart new
+        → (i j : ℕ) (p : Proof) (o : Obligation) → slice_get proofs i ≡ Some p → slice_get new j ≡ Some o → p.key ≡ key_of o
+        → Takes (map unlaid proofs) new i j ↔ IsFirstOfKey proofs i p }
 {}
 
 /// Where the obligations have distinct keys, the proofs have afterwards.

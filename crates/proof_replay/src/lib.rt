@@ -13,6 +13,7 @@ mod passing;
 pub use carrying::{Carried, Laid, Takes, carry};
 pub use laws::{
     carried_keys_are_distinct, carried_proofs_are_laid_there, carrying_twice_is_carrying_once,
-    equal_sequents_pair_in_order, keys_tell_obligations, no_obligation_is_taken_twice,
-    no_proof_is_lost, sequents_tell, takes_are_obligations, what_is_taken_fits,
+    equal_sequents_pair_in_order, first_readings_go_by_keys, keys_tell_obligations,
+    no_obligation_is_taken_twice, no_proof_is_lost, sequents_tell, takes_are_obligations,
+    what_is_taken_fits,
 };

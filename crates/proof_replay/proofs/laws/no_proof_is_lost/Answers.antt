@@ -23,4 +23,4 @@ returns-clause-sequent c proofs new i j p o h g s e =
     )
 
 pub returns-clause-key : goal.returns-clause-key
-returns-clause-key c proofs new i j p o h g s e = no_second fits_by_sequent fits_by_key proofs new i j p o h e g (says_key p o s)
+returns-clause-key c proofs new i j p o h g s e = let k = no_second fits_by_sequent fits_by_key proofs new i j p o h e g (says_key p o s) in (k.0, k.1.0)
