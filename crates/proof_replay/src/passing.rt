@@ -100,7 +100,7 @@ fn next<K: Eq + Hash + Drop>(
 /// that has taken none takes the first obligation left with the label that it looks for.
 ///
 /// It is linear in the labels, apart from what it costs to hash and compare them: each is hashed
-/// once, and compared where hashes agree.
+/// twice at most, and compared where hashes agree.
 pub fn pass<K: Eq + Hash + Drop>(
     alloc: Global,
     wanted: &[Option<K>],
