@@ -21,5 +21,7 @@ pub use obligation::{Obligation, Obligations};
 pub use replacing::{Entries, Entry, put_entries, subst};
 pub use sequent::{Sequent, Var, Vars};
 pub use sort::{Sort, Sorts};
-pub use telling::{equal, same_oper, same_text};
+pub use telling::{
+    equal, equal_all, equal_sort_lists, equal_sorts, oper_number, same_oper, same_text,
+};
 pub use term::{Oper, Term, Terms};

@@ -1,8 +1,8 @@
-// Whether two terms are the same, as they are written.
+// Whether two terms, or two sorts, are the same, as they are written.
 ghost use Rattle.std.specs.Prelude.{◌≡◌, ◌↔◌, IsTrue, bytes_eq};
 ghost use Rattle.term_core.specs.Opers.{number_of, same_operator};
 
-use crate::{Oper, Term};
+use crate::{Oper, Sort, Term};
 use base_kit::Text;
 
 /// Whether two names are the same.
@@ -13,9 +13,9 @@ pub fn same_text(a: &Text, b: &Text) -> bool
     a.as_bytes() == b.as_bytes()
 }
 
-// The place of an operator among the kinds of operators, and the number that it holds: the check
-// of a derived `==` ends at a limit of steps.
-fn number(oper: Oper) -> (u8, u32)
+/// The place of an operator among the kinds of operators, and the number that it holds, 0 where it
+/// holds none. (The check of a derived `==` ends at a limit of steps.)
+pub fn oper_number(oper: Oper) -> (u8, u32)
     ensures { result ≡ number_of oper }
 {
     match oper {
@@ -54,13 +54,14 @@ pub fn same_oper(a: Oper, b: Oper) -> bool
     ensures same { IsTrue result ↔ (a ≡ b) }
     ensures test { result ≡ same_operator a b }
 {
-    let (kind, held) = number(a);
-    let (other_kind, other_held) = number(b);
+    let (kind, held) = oper_number(a);
+    let (other_kind, other_held) = oper_number(b);
     kind == other_kind && held == other_held
 }
 
+/// Whether two lists of terms are the same, as `equal` says it. It takes no memory.
 #[cycle(equal)]
-fn equal_all(xs: &[Term], ys: &[Term]) -> bool
+pub fn equal_all(xs: &[Term], ys: &[Term]) -> bool
     ensures { IsTrue result ↔ (xs.now ≡ ys.now) }
 {
     if xs.len() != ys.len() {
@@ -112,6 +113,59 @@ pub fn equal(a: &Term, b: &Term) -> bool
                     && equal(high.get(), high2.get())
                     && equal(body.get(), body2.get())
             }
+            _ => false,
+        },
+    }
+}
+
+/// Whether two lists of sorts are the same. It takes no memory.
+#[cycle(equal_sorts)]
+pub fn equal_sort_lists(xs: &[Sort], ys: &[Sort]) -> bool
+    ensures { IsTrue result ↔ (xs.now ≡ ys.now) }
+{
+    if xs.len() != ys.len() {
+        return false;
+    }
+    for (i, x) in xs.iter().enumerate() {
+        if !equal_sorts(x, &ys[i]) {
+            return false;
+        }
+    }
+    true
+}
+
+/// Whether two sorts are the same, ranges included. It takes no memory.
+#[cycle(equal_sorts)]
+pub fn equal_sorts(a: &Sort, b: &Sort) -> bool
+    ensures { IsTrue result ↔ (a.now ≡ b.now) }
+{
+    match a {
+        Sort::Whole => match b {
+            Sort::Whole => true,
+            _ => false,
+        },
+        Sort::Range(low, high) => match b {
+            Sort::Range(low2, high2) => *low == *low2 && *high == *high2,
+            _ => false,
+        },
+        Sort::Truth => match b {
+            Sort::Truth => true,
+            _ => false,
+        },
+        Sort::Array(low, high, element) => match b {
+            Sort::Array(low2, high2, element2) => {
+                *low == *low2 && *high == *high2 && equal_sorts(element.get(), element2.get())
+            }
+            _ => false,
+        },
+        Sort::Record(number, parts) => match b {
+            Sort::Record(number2, parts2) => {
+                *number == *number2 && equal_sort_lists(parts.as_slice(), parts2.as_slice())
+            }
+            _ => false,
+        },
+        Sort::Free(number) => match b {
+            Sort::Free(number2) => *number == *number2,
             _ => false,
         },
     }

@@ -1,5 +1,5 @@
 // The sort of a term.
-ghost use Rattle.std.specs.Prelude.{◌≡◌, List, ℕ, ◌∷◌, [], ◌++◌, ◌↔◌, ◌&&◌, map, find, IfOk, OnOk, IsTrue, unwrap_or};
+ghost use Rattle.std.specs.Prelude.{◌≡◌, List, ℕ, ◌∷◌, [], ◌++◌, ◌&&◌, map, find, IfOk, OnOk, unwrap_or};
 ghost use Rattle.std.specs.List.{list_all};
 ghost use Rattle.std.specs.Option.{option_copied, option_map};
 ghost use Rattle.term_core.specs.Names.{has};
@@ -13,7 +13,10 @@ ghost use Rattle.term_sorts.specs.Sorting.{basic_sort, usual_of, usual_sort, equ
 use base_kit::{Copied, Listed, Memory, Text};
 use sqlite_items::{Boxed, Items};
 use std::alloc::Global;
-use term_core::{Oper, Sort, Sorts, Term, Terms, Var, Vars, has_name, same_oper, same_text};
+use term_core::{
+    Oper, Sort, Sorts, Term, Terms, Var, Vars, equal_sort_lists, equal_sorts, has_name, same_oper,
+    same_text,
+};
 
 /// The sorts of operands and of the result of an operator of a trait, or of a type.
 #[derive(Drop)]
@@ -95,61 +98,10 @@ fn basic_of(sort: Basic) -> Sort
     }
 }
 
-#[cycle(same)]
-fn are_same(xs: &[Sort], ys: &[Sort]) -> bool
-    ensures { IsTrue result ↔ (xs.now ≡ ys.now) }
-{
-    if xs.len() != ys.len() {
-        return false;
-    }
-    for (i, x) in xs.iter().enumerate() {
-        if !is_same(x, &ys[i]) {
-            return false;
-        }
-    }
-    true
-}
-
-#[cycle(same)]
-fn is_same(a: &Sort, b: &Sort) -> bool
-    ensures { IsTrue result ↔ (a.now ≡ b.now) }
-{
-    match a {
-        Sort::Whole => match b {
-            Sort::Whole => true,
-            _ => false,
-        },
-        Sort::Range(low, high) => match b {
-            Sort::Range(low2, high2) => *low == *low2 && *high == *high2,
-            _ => false,
-        },
-        Sort::Truth => match b {
-            Sort::Truth => true,
-            _ => false,
-        },
-        Sort::Array(low, high, element) => match b {
-            Sort::Array(low2, high2, element2) => {
-                *low == *low2 && *high == *high2 && is_same(element.get(), element2.get())
-            }
-            _ => false,
-        },
-        Sort::Record(number, parts) => match b {
-            Sort::Record(number2, parts2) => {
-                *number == *number2 && are_same(parts.as_slice(), parts2.as_slice())
-            }
-            _ => false,
-        },
-        Sort::Free(number) => match b {
-            Sort::Free(number2) => *number == *number2,
-            _ => false,
-        },
-    }
-}
-
 fn is_same_sort(a: &Sort, b: &Sort) -> bool
     ensures { result ≡ same_sort a.now b.now }
 {
-    is_same(a, b)
+    equal_sorts(a, b)
 }
 
 #[cycle(plain)]
@@ -189,7 +141,7 @@ fn plain_parts(alloc: Global, parts: &[Sort]) -> Result<Sorts, Memory>
 fn are_same_sorts(xs: &[Sort], ys: &[Sort]) -> bool
     ensures { result ≡ each_same (map same_sort xs.now) ys.now }
 {
-    are_same(xs, ys)
+    equal_sort_lists(xs, ys)
 }
 
 fn are_all(sort: &Sort, others: &[Sort]) -> bool

@@ -1,0 +1,13 @@
+pub mod AgainLaws
+pub mod BothPasses
+pub mod CarriedLists
+pub mod Examples
+pub mod Fitting
+pub mod KeyLaws
+pub mod LeftLaws
+pub mod Pairing
+pub mod PassLaws
+pub mod QueueLaws
+pub mod ReadAnew
+pub mod SequentPairs
+pub mod TakingLaws
