@@ -117,11 +117,11 @@ fn read_lines(alloc: Global, bytes: &[u8]) -> Result<Vec<Line>, ScriptError>
     ensures err { IfErr result (λ e. IsReason e (find is_bad (lines_of bytes.now))) }
 {
     let mut lines = Vec::new(alloc);
-    let mut rest = bytes;
+    let mut unread = bytes;
     let mut number = 0;
-    while !rest.is_empty() {
-        let (line, after) = cut_line(rest);
-        rest = after;
+    while !unread.is_empty() {
+        let (line, after) = cut_line(unread);
+        unread = after;
         number += 1;
         read_line(alloc, number, line, &mut lines)?;
     }

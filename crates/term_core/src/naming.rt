@@ -82,9 +82,7 @@ pub fn free_names(alloc: Global, term: &Term) -> Result<Names, Memory>
         Term::Op(_, terms) => {
             let parts = terms.as_slice();
             let mut rest = Names::new(alloc);
-            let mut i = parts.len();
-            while i > 0 {
-                i -= 1;
+            for i in (0..parts.len()).rev() {
                 let mut names = free_names(alloc, &parts[i])?;
                 add_names(alloc, &mut names, rest.as_slice())?;
                 rest = names;

@@ -36,9 +36,7 @@ pub type Entries = Listed<Entry>;
 fn entry_of<'a>(entries: &'a [Entry], name: &Text) -> Option<&'a Term>
     ensures { sub_of entries.now name.now ≡ unwrap_or (option_copied result) (var name.now) }
 {
-    let mut i = entries.len();
-    while i > 0 {
-        i -= 1;
+    for i in (0..entries.len()).rev() {
         let entry = &entries[i];
         if same_text(name, &entry.name) {
             return Some(&entry.by);
@@ -62,9 +60,7 @@ fn free_in(alloc: Global, entries: &[Entry], names: &[Text]) -> Result<Names, Me
     ensures { IfOk result (λ taken. taken ≡ union_all (frees (sub_of entries.now) names.now)) }
 {
     let mut rest = Names::new(alloc);
-    let mut i = names.len();
-    while i > 0 {
-        i -= 1;
+    for i in (0..names.len()).rev() {
         let mut found = free_at(alloc, entries, &names[i])?;
         add_names(alloc, &mut found, rest.as_slice())?;
         rest = found;

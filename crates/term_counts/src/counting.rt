@@ -250,9 +250,7 @@ pub fn counts_of(alloc: Global, term: &Term) -> Result<TermCounts, Memory>
 fn measure_for<'a>(measures: &'a [Measure], name: &Text) -> Option<&'a Measure>
     ensures { option_copied result ≡ measure_of measures.now name.now }
 {
-    let mut i = measures.len();
-    while i > 0 {
-        i -= 1;
+    for i in (0..measures.len()).rev() {
         let measure = &measures[i];
         if same_text(&measure.name, name) {
             return Some(measure);

@@ -1,11 +1,8 @@
-use Rattle.std.proofs.Common.{◌≡◌, drop, ◌≤◌, length}
+use Rattle.std.proofs.Common.{◌≡◌, drop}
 use Rattle.term_core.specs.Names.{union_all}
 use Rattle.term_core.specs.Substitution.{frees}
 use Rattle.term_core.specs.Substitution.{sub_of}
 use Rattle.term_core.proofs.replacing.free_in.Given as goal
 
 abbrev pub invariant-loop-i : goal.invariant-loop-i
-invariant-loop-i l = (l.i ≤ length l.names) × (l.rest ≡ union_all (frees (sub_of l.entries) (drop l.i l.names)))
-
-abbrev pub decreases-loop-i : goal.decreases-loop-i
-decreases-loop-i l = l.i
+invariant-loop-i l = l.rest ≡ union_all (frees (sub_of l.entries) (drop l.i l.names))
