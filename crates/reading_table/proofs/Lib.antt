@@ -1,0 +1,11 @@
+pub mod Answers
+pub mod Bars
+pub mod Complete
+pub mod Conditions
+pub mod Faults
+pub mod Parts
+pub mod Predictive
+pub mod Rules
+pub mod Samples
+pub mod Sound
+pub mod TokenSets
