@@ -7,5 +7,6 @@ pub mod Parts
 pub mod Predictive
 pub mod Rules
 pub mod Samples
+pub mod Signs
 pub mod Sound
 pub mod TokenSets
