@@ -1,6 +1,6 @@
 -- Taking answers apart.
-use Rattle.std.proofs.Common.{◌≡◌, ℕ, List, [], ◌∷◌, ◌++◌, refl, Option, Some, None, Bool, true, false, if◌then◌else◌, append_assoc, ap, ◌∙◌}
-use Rattle.reading_table.specs.Machine.{or_else, first_some, after, both, before}
+use Rattle.std.proofs.Common.{◌≡◌, List, [], ◌∷◌, ◌++◌, refl, Option, Some, None, Bool, true, false, if◌then◌else◌, append_assoc, ap, ◌∙◌}
+use Rattle.reading_table.specs.Machine.{or_else, first_some, after, both}
 use Rattle.reading_table.specs.Tables.{Has, first, later}
 
 pub after_some : {A : Type 0} → (s : A) (o : Option (List A)) (l : List A) → after s o ≡ Some l → (a : List A) × (o ≡ Some a) × (s ∷ a ≡ l)

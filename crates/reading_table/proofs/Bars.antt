@@ -225,20 +225,8 @@ maybe_marks = note (tokens.Mark mark.AtSign) ∷ note (tokens.Mark mark.Comma) �
 abbrev gens : List TokenSet
 gens = note (tokens.Word word.Generated) ∷ []
 
-abbrev maybe_asserts : List TokenSet
-maybe_asserts = note tokens.Adding ∷ note tokens.Highest ∷ note tokens.Maker ∷ note (tokens.Mark mark.AtSign) ∷ note (tokens.Mark mark.Dot) ∷ note (tokens.Mark mark.Open) ∷ note (tokens.Mark mark.Semicolon) ∷ note tokens.Name ∷ note tokens.Number ∷ note (tokens.Word word.Asserts) ∷ note (tokens.Word word.Exists) ∷ note (tokens.Word word.For) ∷ note (tokens.Word word.If) ∷ note (tokens.Word word.In) ∷ note (tokens.Word word.Return) ∷ []
-
-abbrev asserts_rest : List TokenSet
-asserts_rest = note tokens.Adding ∷ note tokens.Highest ∷ note tokens.Maker ∷ note (tokens.Mark mark.AtSign) ∷ note (tokens.Mark mark.Dot) ∷ note (tokens.Mark mark.Open) ∷ note (tokens.Mark mark.Semicolon) ∷ note tokens.Name ∷ note tokens.Number ∷ note (tokens.Word word.Exists) ∷ note (tokens.Word word.For) ∷ note (tokens.Word word.If) ∷ note (tokens.Word word.In) ∷ note (tokens.Word word.Return) ∷ []
-
 abbrev eqns : List TokenSet
 eqns = note tokens.Adding ∷ note tokens.Highest ∷ note tokens.Maker ∷ note (tokens.Mark mark.Open) ∷ note tokens.Name ∷ note tokens.Number ∷ note (tokens.Word word.Exists) ∷ note (tokens.Word word.For) ∷ note (tokens.Word word.If) ∷ note (tokens.Word word.In) ∷ note (tokens.Word word.Return) ∷ []
-
-abbrev maybe_implies : List TokenSet
-maybe_implies = note (tokens.Mark mark.AtSign) ∷ note (tokens.Mark mark.Dot) ∷ note (tokens.Mark mark.Semicolon) ∷ note tokens.Name ∷ note (tokens.Word word.Implies) ∷ note (tokens.Word word.Return) ∷ []
-
-abbrev implies_rest : List TokenSet
-implies_rest = note (tokens.Mark mark.AtSign) ∷ note (tokens.Mark mark.Dot) ∷ note (tokens.Mark mark.Semicolon) ∷ note tokens.Name ∷ note (tokens.Word word.Return) ∷ []
 
 abbrev more_vars : List TokenSet
 more_vars = note (tokens.Mark mark.AtSign) ∷ note (tokens.Mark mark.Dot) ∷ note (tokens.Mark mark.Semicolon) ∷ []
@@ -296,11 +284,11 @@ bars_list =
     ∷ ([], []) ∷ (wclauses, wclauses) ∷ ([], []) ∷ ([], []) ∷ (global_mode, global_mode) ∷ (global_out, global_out)
     ∷ ([], []) ∷ ([], []) ∷ ([], []) ∷ ([], []) ∷ ([], []) ∷ (view_invariant, view_invariant)
     ∷ ([], []) ∷ ([], []) ∷ ([], []) ∷ (incls, incls) ∷ ([], []) ∷ (maybe_ops, maybe_ops)
-    ∷ (ops, ops) ∷ ([], []) ∷ (maybe_marks, maybe_marks) ∷ (gens, gens) ∷ ([], []) ∷ (maybe_asserts, maybe_asserts)
-    ∷ (asserts_rest, asserts_rest) ∷ (asserts_rest, asserts_rest) ∷ (asserts_rest, asserts_rest) ∷ (assoc_tail_note, assoc_tail_note) ∷ ([], []) ∷ (eqns, eqns)
-    ∷ ([], []) ∷ (maybe_implies, maybe_implies) ∷ (implies_rest, implies_rest) ∷ (mark_note, mark_note) ∷ (more_vars, more_vars) ∷ (ops, ops)
-    ∷ ([], []) ∷ ([], []) ∷ ([], []) ∷ (mark_note, mark_note) ∷ (mark_note, mark_note) ∷ (text_note, text_note)
-    ∷ (mark_note, mark_note) ∷ (mark_note, mark_note) ∷ ([], []) ∷ ([], []) ∷ (step, step) ∷ (step_end, step_end)
-    ∷ (step_end, step_end) ∷ (more_steps, more_steps) ∷ (in_number, in_number) ∷ (maybe_names, maybe_names) ∷ (maybe_names, maybe_names) ∷ (maybe_names, maybe_names)
-    ∷ (more_coefficients, more_coefficients) ∷ ([], []) ∷ (text_note, text_note)
+    ∷ (ops, ops) ∷ ([], []) ∷ (maybe_marks, maybe_marks) ∷ (gens, gens) ∷ ([], []) ∷ ([], [])
+    ∷ ([], []) ∷ ([], []) ∷ ([], []) ∷ (assoc_tail_note, assoc_tail_note) ∷ ([], []) ∷ (eqns, eqns)
+    ∷ ([], []) ∷ ([], []) ∷ ([], []) ∷ ([], []) ∷ (mark_note, mark_note) ∷ (more_vars, more_vars)
+    ∷ (ops, ops) ∷ ([], []) ∷ ([], []) ∷ ([], []) ∷ (mark_note, mark_note) ∷ (mark_note, mark_note)
+    ∷ (text_note, text_note) ∷ (mark_note, mark_note) ∷ (mark_note, mark_note) ∷ ([], []) ∷ ([], []) ∷ (step, step)
+    ∷ (step_end, step_end) ∷ (step_end, step_end) ∷ (more_steps, more_steps) ∷ (in_number, in_number) ∷ (maybe_names, maybe_names) ∷ (maybe_names, maybe_names)
+    ∷ (maybe_names, maybe_names) ∷ (more_coefficients, more_coefficients) ∷ ([], []) ∷ (text_note, text_note)
     ∷ []

@@ -1,9 +1,9 @@
 -- What is derived is read, over a table that can be read by the next token alone.
-use Rattle.std.proofs.Common.{◌≡◌, ℕ, zero, suc, List, [], ◌∷◌, ◌++◌, refl, sym, ◌∙◌, ap, subst, Option, Some, None, Bool, true, false, if◌then◌else◌, append_assoc, Result, Ok, Err, length}
+use Rattle.std.proofs.Common.{◌≡◌, ℕ, List, [], ◌∷◌, ◌++◌, refl, sym, ◌∙◌, ap, Option, Some, None, Bool, true, false, if◌then◌else◌, append_assoc, Result, Ok}
 use Rattle.reading_table.specs.Tables.{View, token, done, part, Table, Has, arrived, Derives, ends, takes, acts, opens, omits}
-use Rattle.reading_table.specs.Machine.{after, both, before, hush_at, hush, lead_at, lead, enter, perform_at, perform, apply, performed, feed, finished, going_on, shifted, run}
-use Rattle.reading_table.proofs.Answers.{after_some, both_some, if_some, some_if, both-assoc, both-after}
-use Rattle.reading_table.proofs.Sound.{IsQuiet, KeepsQuiet}
+use Rattle.reading_table.specs.Machine.{after, both, before, hush_at, hush, lead_at, lead, enter, perform_at, perform, apply, performed, finished, going_on, shifted, run}
+use Rattle.reading_table.proofs.Answers.{both_some, some_if, both-assoc, both-after}
+use Rattle.reading_table.proofs.Sound.{IsQuiet}
 
 module _ {Symbol Part Token State : Type 0} (T : Table Symbol Part Token State) (depth : ℕ) where
   abbrev leads : Token → List Symbol → Option (List Symbol)
@@ -134,7 +134,7 @@ module _ {Symbol Part Token State : Type 0} (T : Table Symbol Part Token State) 
     omitted_leads s p q ss l t v e g h =
         let quiet = P.quiet p q e in
         let whole : both (Some q) (leads t ss) ≡ Some l =
-            sym (ap (λ o. before o ss (both (hush T q) (leads t ss))) (quiet_leads t q quiet) ∙ ap (λ o. both o (leads t ss)) (quiet_hushes q quiet)) ∙ sym (lead_append t q ss) ∙ h in
+        sym (ap (λ o. before o ss (both (hush T q) (leads t ss))) (quiet_leads t q quiet) ∙ ap (λ o. both o (leads t ss)) (quiet_hushes q quiet)) ∙ sym (lead_append t q ss) ∙ h in
         ap (λ v. lead_at T (enter T depth) t v s ss (leads t ss)) v ∙ by_entry whole (enter T depth p t) refl
       where
         by_entry : both (Some q) (leads t ss) ≡ Some l → (o : Option (List Symbol)) → enter T depth p t ≡ o → before o ss (both (T.silence p) (leads t ss)) ≡ Some l

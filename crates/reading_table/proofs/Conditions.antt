@@ -5,7 +5,7 @@ use Rattle.std.specs.Option.{option_map_or}
 use Rattle.std.proofs.lemmas.Bool.{and_parts}
 use denote.Enum.Declared.{tag_of}
 use Rattle.reading_table.specs.contracts.rule.Rule.{the_type}
-use Rattle.reading_table.specs.declared.rule.TheConstants.{ROWS}
+use Rattle.reading_table.specs.declared.rows.TheConstants.{ROWS}
 use Rattle.reading_table.specs.Machine.{hush}
 use Rattle.reading_table.specs.Rows.{Entry, Placed, Part, rows, silence}
 use Rattle.reading_table.specs.States.{set_of, closes}

@@ -1,10 +1,10 @@
 -- The place of a fault: what stands before it goes on to what is read, and with the token there nothing is read.
-use Rattle.std.proofs.Common.{◌≡◌, ℕ, zero, suc, List, [], ◌∷◌, ◌++◌, refl, sym, ◌∙◌, ap, subst, Option, Some, None, Bool, true, false, ◌&&◌, if◌then◌else◌, append_assoc, append-nil, Result, Ok, Err, length, take, arith}
+use Rattle.std.proofs.Common.{◌≡◌, ℕ, zero, suc, List, [], ◌∷◌, ◌++◌, refl, sym, ◌∙◌, ap, subst, Option, Some, None, Bool, true, append_assoc, append-nil, Result, Ok, Err, length, take, arith}
 use Rattle.std.specs.Prelude.{is_some}
 use Rattle.std.specs.List.{list_all}
 use Rattle.std.proofs.lemmas.Bool.{and_parts, and_from}
-use Rattle.reading_table.specs.Tables.{View, token, done, part, Table, Has, arrived, Derives, ends, takes, acts, opens, omits}
-use Rattle.reading_table.specs.Machine.{or_else, first_some, after, both, before, hush, lead_at, lead, enter, perform_at, perform, apply, performed, feed, finished, going_on, shifted, run}
+use Rattle.reading_table.specs.Tables.{View, token, done, part, Table, arrived, Derives, ends, takes, acts, opens, omits}
+use Rattle.reading_table.specs.Machine.{first_some, both, before, hush, lead_at, lead, enter, perform_at, perform, apply, performed, feed, finished, going_on, shifted, run}
 use Rattle.reading_table.proofs.Answers.{after_some, both_some, if_some, first_some_has}
 use Rattle.reading_table.proofs.Sound.{IsQuiet, KeepsQuiet, quiet_done, feed_derives}
 use Rattle.reading_table.proofs.Complete.{IsPredictive, Good, run_reads}

@@ -1,9 +1,9 @@
 -- What a test of the table's entries says of each part.
-use Rattle.std.proofs.Common.{◌≡◌, ℕ, zero, suc, ◌+◌, ◌<◌, ◌≤◌, List, [], ◌∷◌, refl, sym, ◌∙◌, ap, subst, Option, Some, None, Bool, true, false, ◌&&◌, map, length, arith, eqb-true, lit≤, get_or}
+use Rattle.std.proofs.Common.{◌≡◌, ℕ, zero, suc, ◌+◌, ◌<◌, List, [], ◌∷◌, refl, sym, ◌∙◌, ap, subst, Option, Some, None, Bool, true, false, ◌&&◌, map, length, arith, eqb-true}
 use Rattle.std.specs.Prelude.{slice_get, nat_eq, option_map}
 use Rattle.std.specs.List.{list_all}
 use Rattle.std.proofs.lemmas.Bool.{and_parts}
-use Rattle.std.proofs.lemmas.Option.{slice_get-map, slice_get_past, slice_get_cases}
+use Rattle.std.proofs.lemmas.Option.{slice_get-map, slice_get_cases}
 use Rattle.std.proofs.Common.{inl, inr}
 use denote.Struct.Field.{Field}
 use denote.Enum.Enum.{Sum, tag}
@@ -11,7 +11,7 @@ use denote.Enum.Declared.{rowss, tag_of}
 use denote.Enum.Bare.{tag_one}
 use Rattle.reading_table.specs.declared.rule.Rule.{Rule}
 use Rattle.reading_table.specs.contracts.rule.Rule.{the_type}
-use Rattle.reading_table.specs.declared.rule.TheConstants.{ROWS}
+use Rattle.reading_table.specs.declared.rows.TheConstants.{ROWS}
 use Rattle.reading_table.specs.Rows.{Entry, Part, entry_of}
 
 -- ---- each rule has an entry, and it is its own
@@ -89,6 +89,6 @@ agree_on_each_part f g h note r =
     let o = own_entry r in
     let i = tag_of the_type r in
     let z : Some (f (note, o.entry.0)) ≡ Some (g (note, o.entry.0)) =
-        sym (mapped (λ (e : Entry). f (note, e.0)) ROWS i o.entry o.found) ∙ ap (λ es. slice_get es i) (h note) ∙ mapped (λ (e : Entry). g (note, e.0)) ROWS i o.entry o.found in
+    sym (mapped (λ (e : Entry). f (note, e.0)) ROWS i o.entry o.found) ∙ ap (λ es. slice_get es i) (h note) ∙ mapped (λ (e : Entry). g (note, e.0)) ROWS i o.entry o.found in
     let same : f (note, o.entry.0) ≡ g (note, o.entry.0) = cc in
     subst (λ r. f (note, r) ≡ g (note, r)) o.own same

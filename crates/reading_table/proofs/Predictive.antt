@@ -1,10 +1,10 @@
 -- Tests of a table by sets of tokens, and that a table which passes them can be read by the next token alone.
-use Rattle.std.proofs.Common.{◌≡◌, ℕ, zero, suc, List, [], ◌∷◌, ◌++◌, refl, sym, ◌∙◌, ap, subst, Option, Some, None, Bool, true, false, ◌&&◌, ◌||◌, if◌then◌else◌, map}
+use Rattle.std.proofs.Common.{◌≡◌, ℕ, zero, suc, List, [], ◌∷◌, ◌++◌, refl, sym, ◌∙◌, ap, Option, Some, None, Bool, true, false, ◌&&◌, ◌||◌, if◌then◌else◌, map}
 use Rattle.std.specs.Prelude.{is_some}
 use Rattle.std.specs.List.{list_any, list_all, flat_map}
-use Rattle.std.proofs.lemmas.Bool.{and_parts, or_left, or_right}
+use Rattle.std.proofs.lemmas.Bool.{and_parts}
 use Rattle.reading_table.specs.Tables.{View, token, done, part, Table, Has, first, later}
-use Rattle.reading_table.specs.Machine.{or_else, first_some, after, both, before, hush_at, hush, lead_at, lead, enter}
+use Rattle.reading_table.specs.Machine.{or_else, first_some, after, both, before, hush, lead_at, lead, enter}
 use Rattle.reading_table.proofs.Answers.{after_some, both_some, if_some, first_some_has}
 use Rattle.reading_table.proofs.Sound.{IsQuiet}
 use Rattle.reading_table.proofs.Complete.{EndsWell, IsPredictive}

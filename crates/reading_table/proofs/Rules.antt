@@ -1,11 +1,11 @@
 -- What holds of reading by the table, from a rule on.
-use Rattle.std.proofs.Common.{◌≡◌, ℕ, List, [], ◌∷◌, ◌++◌, refl, sym, ◌∙◌, Bool, Ok, Err, length, take}
+use Rattle.std.proofs.Common.{◌≡◌, ℕ, List, [], ◌∷◌, ◌++◌, refl, Bool, Ok, Err, length, take}
 use Rattle.reading_table.specs.declared.rule.Rule.{Rule}
 use Rattle.reading_table.specs.declared.symbol.Symbol.TheVariants as symbol
 use Rattle.reading_table.specs.Faults.{IsRead, reading, GoesOn}
 use Rattle.reading_table.specs.Reading.{reading_table, deepest}
 use Rattle.reading_table.specs.States.{Token, State}
-use Rattle.reading_table.proofs.Complete.{IsPredictive, good_alone, run_reads}
+use Rattle.reading_table.proofs.Complete.{good_alone, run_reads}
 use Rattle.reading_table.proofs.Conditions.{table_is_predictive}
 use Rattle.reading_table.proofs.Faults.{not_admitted, not_read, admitted_before}
 use Rattle.reading_table.proofs.Samples.{example, examples_serve, deepest_sample, each_is_sampled, each_row_can_be}

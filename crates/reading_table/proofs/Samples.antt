@@ -1,24 +1,21 @@
 -- Whatever has been read by the reading table goes on to something that is read: each token has an example, and each part a sample.
-use Rattle.std.proofs.Common.{◌≡◌, ℕ, List, [], ◌∷◌, ◌++◌, refl, sym, ◌∙◌, ap, subst, Option, Some, None, Bool, true, false, ◌&&◌, ◌||◌, append-nil}
-use Rattle.std.specs.Prelude.{is_some, codes, if◌then◌else◌, bytes_eq}
-use Rattle.std.specs.List.{list_all}
-use Rattle.std.proofs.lemmas.Bool.{and_parts, and_from}
+use Rattle.std.proofs.Common.{◌≡◌, ℕ, List, [], ◌++◌, refl, ap, subst, Option, Some, None, Bool, true, false, ◌&&◌, ◌||◌, append-nil}
+use Rattle.std.specs.Prelude.{is_some, codes}
+use Rattle.std.proofs.lemmas.Bool.{and_from}
 use denote.Enum.Bare.{true_same}
 use Rattle.ada_tree.specs.contracts.word.Word as word_row
 use Rattle.ada_tree.specs.contracts.word.Mark as mark_row
 use Rattle.ada_tree.specs.declared.word.Word.TheVariants as word
 use Rattle.ada_tree.specs.declared.word.Mark.TheVariants as mark
 use Rattle.ada_tree.specs.Tokens.{Lexeme, a_name, a_number, a_word, a_mark}
-use Rattle.reading_table.specs.declared.rule.Rule.{Rule}
-use Rattle.reading_table.specs.declared.rule.TheConstants.{ROWS}
 use Rattle.reading_table.specs.declared.symbol.Form.{Form}
 use Rattle.reading_table.specs.declared.symbol.Form.TheVariants as form
 use Rattle.reading_table.specs.declared.symbol.Symbol.{Symbol}
 use Rattle.reading_table.specs.declared.symbol.Symbol.TheVariants as symbol
 use Rattle.reading_table.specs.declared.symbol.Tokens.{Tokens}
 use Rattle.reading_table.specs.declared.symbol.Tokens.TheVariants as tokens
-use Rattle.reading_table.specs.Rows.{Entry, Placed, Part}
-use Rattle.reading_table.specs.States.{Token, State, is_of, set_of, closes}
+use Rattle.reading_table.specs.Rows.{Placed, Part}
+use Rattle.reading_table.specs.States.{Token, State, is_of, closes}
 use Rattle.reading_table.specs.Reading.{reading_table, may_be, is_side}
 use Rattle.reading_table.proofs.Faults.{AreExamples, sample, rows_can_be}
 use Rattle.reading_table.proofs.Parts.{tests, of_each_part}

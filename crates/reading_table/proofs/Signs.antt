@@ -1,18 +1,16 @@
 -- Reading tokens with the comments before them is reading events to which those comments are attached.
-use Rattle.std.proofs.Common.{◌≡◌, ℕ, List, [], ◌∷◌, ◌++◌, refl, sym, ◌∙◌, ap, subst, Option, Some, None, Bool, true, false, ◌&&◌, append_assoc, append-nil, ◌⊎◌, inl, inr}
-use Rattle.std.proofs.lemmas.Bool.{and_parts, and_from}
+use Rattle.std.proofs.Common.{◌≡◌, ℕ, List, [], ◌∷◌, ◌++◌, refl, sym, ◌∙◌, ap, subst, Bool, true, false, append_assoc, append-nil, ◌⊎◌, inl, inr}
 use Rattle.ada_tree.specs.Tokens.{Lexeme, Sign, token, comment, Event, spelled, comments}
 use Rattle.ada_tree.specs.Reading.{begins_with_comment, Attached, dropped, waits, taken as attached, passed}
 use Rattle.reading_table.specs.declared.held.Held.{Held}
-use Rattle.reading_table.specs.declared.held.Held.TheVariants as held
 use Rattle.reading_table.specs.declared.symbol.Symbol.{Symbol}
 use Rattle.reading_table.specs.declared.symbol.Symbol.TheVariants as symbol
 use Rattle.reading_table.specs.Events.{event_view, event_fits, event_taken, event_table, of_values, Reads}
-use Rattle.reading_table.specs.Reading.{reading_table, view_in, is_side}
+use Rattle.reading_table.specs.Reading.{reading_table, view_in}
 use Rattle.reading_table.specs.Rows.{Placed, Part}
 use Rattle.reading_table.specs.Signs.{leading, tokens_from, trailing_from, end_of}
 use Rattle.reading_table.specs.States.{Token, State, does, taken}
-use Rattle.reading_table.specs.Tables.{View, Table, arrived, Derives, ends, takes, acts, opens, omits}
+use Rattle.reading_table.specs.Tables.{arrived, Derives, ends, takes, acts, opens, omits}
 use Rattle.reading_table.specs.Tables.{token as a_token, done, part}
 
 abbrev behind : List Sign → List Sign
@@ -247,9 +245,9 @@ from_front (takes {s = s} {ss = ss} {t = spelled note lexeme} {ts = events} {sta
     let c = came_behind ss (event_taken s values (spelled note lexeme)) last waiting p.rest (subst (λ vs. Came ss vs (waiting ++ leading p.rest) (behind p.rest) last) (no_more events (event_taken s values (spelled note lexeme))) onward) in
     let t : Token = record { comments = []; note = note; lexeme = lexeme } in
     let next : arrived reading_table (end_of p.rest) (tokens_from [] p.rest) (taken s.1 (state_of values waiting) lexeme) ≡ state_of (event_taken s values (spelled note lexeme)) (waiting ++ leading p.rest) =
-        ap (arrived reading_table (end_of p.rest) (tokens_from [] p.rest)) k.gives ∙ came_is p.rest (event_taken s values (spelled note lexeme)) waiting in
+    ap (arrived reading_table (end_of p.rest) (tokens_from [] p.rest)) k.gives ∙ came_is p.rest (event_taken s values (spelled note lexeme)) waiting in
     let taking : Derives reading_table (end_of p.rest) (s ∷ ss) (state_of values waiting) (t ∷ tokens_from [] p.rest) c.state =
-        takes k.sees (k.fits t refl refl) (subst (λ state. Derives reading_table (end_of p.rest) ss state (tokens_from [] p.rest) c.state) (sym next) c.derives) in
+    takes k.sees (k.fits t refl refl) (subst (λ state. Derives reading_table (end_of p.rest) ss state (tokens_from [] p.rest) c.state) (sym next) c.derives) in
     subst (λ signs. Came (s ∷ ss) values waiting signs last) p.whole
     record {
       state = c.state;
@@ -266,7 +264,7 @@ from_front (takes {s = s} {ss = ss} {t = comments texts} {ts = events} {state = 
       state = c.state;
       values_are = c.values_are;
       derives = subst (λ state. Derives reading_table (end_of signs) (s ∷ ss) state (tokens_from [] signs) c.state) (sym start)
-      (acts k.sees (subst (λ state. Derives reading_table (end_of signs) ss state (tokens_from [] signs) c.state) next c.derives));
+          (acts k.sees (subst (λ state. Derives reading_table (end_of signs) ss state (tokens_from [] signs) c.state) next c.derives));
     }
 from_front (acts {s = s} {ss = ss} {ts = events} {state = values} {last = last} v d) waiting signs n a =
     let c = from_front d waiting signs n a in
@@ -389,8 +387,8 @@ to_front {end = end} (takes {s = s} {ss = ss} {t = t} {ts = ts} {state = state} 
         let others : ts ≡ tokens_from [] rest = cc in
         let k = taking s values waiting t v (subst (λ state. reading_table.fits s state t ≡ true) st f) in
         let next : arrived reading_table end ts (taken s.1 state t.lexeme) ≡ state_of (event_taken s values (spelled t.note t.lexeme)) (waiting ++ leading rest) =
-            ap (λ state. arrived reading_table end ts (taken s.1 state t.lexeme)) st ∙ ap (arrived reading_table end ts) k.2 ∙ ap (λ end. arrived reading_table end ts (state_of (event_taken s values (spelled t.note t.lexeme)) waiting)) z
-            ∙ ap (λ ts. arrived reading_table (end_of rest) ts (state_of (event_taken s values (spelled t.note t.lexeme)) waiting)) others ∙ came_is rest (event_taken s values (spelled t.note t.lexeme)) waiting in
+        ap (λ state. arrived reading_table end ts (taken s.1 state t.lexeme)) st ∙ ap (arrived reading_table end ts) k.2 ∙ ap (λ end. arrived reading_table end ts (state_of (event_taken s values (spelled t.note t.lexeme)) waiting)) z
+        ∙ ap (λ ts. arrived reading_table (end_of rest) ts (state_of (event_taken s values (spelled t.note t.lexeme)) waiting)) others ∙ came_is rest (event_taken s values (spelled t.note t.lexeme)) waiting in
         let g = go (event_taken s values (spelled t.note t.lexeme)) (waiting ++ leading rest) (leading rest) (behind rest) (front_is rest) next (others ∙ tokens_behind [] rest) (end_behind end rest z) in
         let whole : Front (s ∷ ss) values waiting (token t.note t.lexeme ∷ rest) last.values = record {
           events = spelled t.note t.lexeme ∷ g.events;

@@ -1,7 +1,7 @@
 -- What is read is derived.
-use Rattle.std.proofs.Common.{◌≡◌, ℕ, zero, suc, List, [], ◌∷◌, ◌++◌, refl, sym, ◌∙◌, ap, subst, Option, Some, None, Bool, true, false, if◌then◌else◌, append_assoc, append-nil, Result, Ok, Err}
+use Rattle.std.proofs.Common.{◌≡◌, ℕ, zero, suc, List, [], ◌∷◌, ◌++◌, refl, sym, ◌∙◌, subst, Option, Some, None, append_assoc, append-nil, Result, Ok, Err}
 use Rattle.reading_table.specs.Tables.{View, token, done, part, Table, Has, arrived, Derives, ends, takes, acts, opens, omits}
-use Rattle.reading_table.specs.Machine.{or_else, first_some, after, both, before, hush_at, hush, lead_at, lead, enter, perform_at, perform, apply, performed, feed, finished, going_on, shifted, run}
+use Rattle.reading_table.specs.Machine.{both, before, hush_at, hush, lead_at, lead, enter, perform_at, perform, apply, performed, feed, finished, going_on, shifted, run}
 use Rattle.reading_table.proofs.Answers.{after_some, both_some, if_some, first_some_has}
 
 module _ {Symbol Part Token State : Type 0} (T : Table Symbol Part Token State) where

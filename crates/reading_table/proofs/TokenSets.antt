@@ -1,5 +1,5 @@
 -- When sets of tokens have no token in common, and when one has all tokens of another.
-use Rattle.std.proofs.Common.{◌≡◌, ℕ, List, [], ◌∷◌, refl, sym, ◌∙◌, ap, subst, Bool, true, false, not, ◌&&◌, ◌||◌, if◌then◌else◌, map}
+use Rattle.std.proofs.Common.{◌≡◌, ℕ, List, [], ◌∷◌, refl, sym, ◌∙◌, ap, Bool, true, false, not, ◌&&◌, ◌||◌, map}
 use Rattle.std.specs.List.{list_any, list_all}
 use Rattle.std.specs.Cmp.Lexicographic.{pointwise}
 use Rattle.std.specs.Char.{to_ascii_lowercase}
@@ -16,12 +16,11 @@ use Rattle.ada_tree.specs.Tokens.{Lexeme, a_name, a_number, a_word, a_mark}
 use Rattle.reading_table.specs.declared.symbol.Form.{Form}
 use Rattle.reading_table.specs.declared.symbol.Tokens.{Tokens}
 use Rattle.reading_table.specs.declared.symbol.Tokens.TheVariants as tokens
-use Rattle.reading_table.specs.Tables.{Has}
 use Rattle.reading_table.specs.TokenSets.{arguments_in, has_form, words_of, marks_of, has_name, has_number}
 use Rattle.reading_table.specs.States.{Token, is_of}
 use Rattle.reading_table.specs.Reading.{is_side}
 use Rattle.reading_table.proofs.Bars.{TokenSet}
-use Rattle.reading_table.proofs.Predictive.{all_has, any_has, has_any}
+use Rattle.reading_table.proofs.Predictive.{all_has, any_has}
 
 -- ---- lists of words, and of marks
 

@@ -5,10 +5,10 @@ use Rattle.reading_table.specs.declared.held.Held.{Held}
 use Rattle.reading_table.specs.declared.held.Held.TheVariants as held
 use Rattle.reading_table.specs.declared.symbol.Symbol.{Symbol}
 use Rattle.reading_table.specs.declared.symbol.Symbol.TheVariants as symbol
-use Rattle.reading_table.specs.Rows.{Placed, Part, side_in, rows, silence}
+use Rattle.reading_table.specs.Rows.{Placed, Part, rows, silence}
 use Rattle.reading_table.specs.Reading.{is_side, view_in}
 use Rattle.reading_table.specs.States.{State, is_of, set_of, closes, does, taken, end_noted}
-use Rattle.reading_table.specs.Tables.{View, token, done, part, Table, Derives}
+use Rattle.reading_table.specs.Tables.{View, token, Table, Derives}
 
 -- places of comments are taken as tokens are
 abbrev pub event_view : Bool → Symbol → View Part

@@ -1,5 +1,5 @@
 -- The reading table as a table to read by.
-use Rattle.std.specs.Prelude.{ℕ, List, ◌++◌, Bool, true, false, not, ◌&&◌, if◌then◌else◌}
+use Rattle.std.specs.Prelude.{ℕ, ◌++◌, Bool, not, ◌&&◌, if◌then◌else◌}
 use Rattle.reading_table.specs.declared.symbol.Symbol.{Symbol}
 use Rattle.reading_table.specs.declared.symbol.Symbol.TheVariants as symbol
 use Rattle.reading_table.specs.Rows.{Placed, Part, side_in, rows, silence}

@@ -7,7 +7,7 @@ use Rattle.ada_tree.specs.declared.operator.Side.TheVariants as side
 use Rattle.ada_tree.specs.Choices.{has_side}
 use Rattle.reading_table.specs.declared.rule.Rule.{Rule}
 use Rattle.reading_table.specs.contracts.rule.Rule.{the_type}
-use Rattle.reading_table.specs.declared.rule.TheConstants.{ROWS}
+use Rattle.reading_table.specs.declared.rows.TheConstants.{ROWS}
 use Rattle.reading_table.specs.declared.symbol.Symbol.{Symbol}
 
 abbrev pub Line : Type 0

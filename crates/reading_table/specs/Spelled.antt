@@ -1,7 +1,6 @@
 -- What it is for the reading table to read exactly what is spelled, for each part of the grammar that stands by itself.
-use Rattle.std.specs.Prelude.{List, ◌++◌, Bool, true, false, not}
+use Rattle.std.specs.Prelude.{List, Bool, true, false}
 use Rattle.std.specs.List.{list_all}
-use Rattle.ada_tree.specs.declared.kind.Kind.{Kind}
 use Rattle.ada_tree.specs.declared.kind.Kind.TheVariants as kind
 use Rattle.ada_tree.specs.declared.node.Node.{Node}
 use Rattle.ada_tree.specs.declared.part.Part.{Part as GrammarPart}

@@ -2,14 +2,13 @@
 use Rattle.std.specs.Prelude.{List, [], ◌∷◌, Bool, slice_get}
 use Rattle.std.specs.Option.{option_map_or}
 use denote.Enum.Declared.{tag_of}
-use Rattle.ada_tree.specs.declared.kind.Kind.{Kind}
 use Rattle.ada_tree.specs.contracts.kind.Kind.{the_type}
 use Rattle.ada_tree.specs.declared.grammar.Choice.{Choice}
 use Rattle.ada_tree.specs.declared.grammar.Choice.TheVariants as choice
 use Rattle.ada_tree.specs.declared.operator.Level.TheVariants as level
 use Rattle.reading_table.specs.declared.rule.Rule.{Rule}
 use Rattle.reading_table.specs.declared.rule.Rule.TheVariants as rule
-use Rattle.reading_table.specs.declared.rule.TheConstants.{STARTS}
+use Rattle.reading_table.specs.declared.starts.TheConstants.{STARTS}
 use Rattle.reading_table.specs.declared.symbol.Symbol.TheVariants as symbol
 use Rattle.reading_table.specs.Rows.{Line, Placed, placed}
 

@@ -1,13 +1,11 @@
 -- What has been read, and what the symbols of the table do with it.
-use Rattle.std.specs.Prelude.{ℕ, List, [], ◌∷◌, ◌++◌, map, take, drop, slice_get, Bool, true, false, ◌&&◌, ◌||◌, bytes_eq, if◌then◌else◌}
+use Rattle.std.specs.Prelude.{ℕ, List, [], ◌∷◌, ◌++◌, map, take, drop, slice_get, Bool, true, bytes_eq}
 use Rattle.std.specs.Char.{to_ascii_lowercase}
 use Rattle.std.specs.List.{list_any}
 use Rattle.std.specs.Option.{option_map_or}
 use denote.Enum.Bare.{sameb}
 use Rattle.ada_tree.specs.declared.kind.Kind.{Kind}
 use Rattle.ada_tree.specs.declared.node.Node.{Node}
-use Rattle.ada_tree.specs.declared.word.Word.{Word}
-use Rattle.ada_tree.specs.declared.word.Mark.{Mark}
 use Rattle.ada_tree.specs.contracts.word.Word as word_row
 use Rattle.ada_tree.specs.contracts.word.Mark as mark_row
 use Rattle.ada_tree.specs.Nodes.{kind_of, text_of, notes_of, kids_of, node_of}

@@ -5,10 +5,8 @@ use Rattle.std.specs.Char.{to_ascii_lowercase}
 use denote.Enum.Bare.{sameb}
 use Rattle.ada_tree.specs.declared.word.Word.{Word}
 use Rattle.ada_tree.specs.declared.word.Word.TheVariants as word
-use Rattle.ada_tree.specs.contracts.word.Word as word_row
 use Rattle.ada_tree.specs.declared.word.Mark.{Mark}
 use Rattle.ada_tree.specs.declared.word.Mark.TheVariants as mark
-use Rattle.ada_tree.specs.contracts.word.Mark as mark_row
 use Rattle.ada_tree.specs.declared.grammar.Argument.{Argument}
 use Rattle.ada_tree.specs.declared.grammar.Argument.TheVariants as argument
 use Rattle.ada_tree.specs.contracts.grammar.Argument as argument_row
