@@ -1,0 +1,12 @@
+pub mod Answers
+pub mod Bars
+pub mod Complete
+pub mod Conditions
+pub mod Faults
+pub mod Parts
+pub mod Predictive
+pub mod Rules
+pub mod Samples
+pub mod Signs
+pub mod Sound
+pub mod TokenSets

@@ -1,0 +1,11 @@
+pub mod Events
+pub mod Faults
+pub mod Machine
+pub mod Reading
+pub mod Rows
+pub mod Signs
+pub mod Spelled
+pub mod Starts
+pub mod States
+pub mod Tables
+pub mod TokenSets

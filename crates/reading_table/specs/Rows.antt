@@ -1,0 +1,53 @@
+-- The rules and their rows, by the table.
+use Rattle.std.specs.Prelude.{List, [], map, filter, slice_get, Bool, true, false, Option, option_map, option_and_then}
+use Rattle.std.specs.Option.{option_map_or}
+use denote.Enum.Declared.{tag_of}
+use Rattle.ada_tree.specs.declared.operator.Side.{Side}
+use Rattle.ada_tree.specs.declared.operator.Side.TheVariants as side
+use Rattle.ada_tree.specs.Choices.{has_side}
+use Rattle.reading_table.specs.declared.rule.Rule.{Rule}
+use Rattle.reading_table.specs.contracts.rule.Rule.{the_type}
+use Rattle.reading_table.specs.declared.rows.TheConstants.{ROWS}
+use Rattle.reading_table.specs.declared.symbol.Symbol.{Symbol}
+
+abbrev pub Line : Type 0
+Line = List Symbol
+
+-- an entry of the table: a rule, its side, what is done where it is read as nothing, if it may be, and its rows
+abbrev pub Entry : Type 0
+Entry = Rule × Side × record { now : List (record { now : Line }) } × record { now : List (Side × record { now : Line }) }
+
+abbrev pub entry_of : Rule → Option Entry
+entry_of r = slice_get ROWS (tag_of the_type r)
+
+-- on which side what is of this one stands, where it is read on a side
+abbrev pub turned : Side → Bool → Bool
+turned side.Both note = note
+turned side.Ada note = false
+turned side.Note note = true
+
+abbrev pub side_in : Bool → Rule → Bool
+side_in note r = option_map_or (λ (e : Entry). turned e.1 note) (entry_of r) note
+
+-- the symbols of a line, with the side that they stand on
+abbrev pub Placed : Type 0
+Placed = Bool × Symbol
+
+abbrev pub placed : Bool → Line → List Placed
+placed note line = map (λ s. (note, s)) line
+
+abbrev pub rows_at : Bool → Entry → List (List Placed)
+rows_at note e = map (λ (row : Side × record { now : Line }). placed note row.1.now) (filter (λ (row : Side × record { now : Line }). has_side note row.0) e.3.now)
+
+abbrev pub silence_at : Bool → Entry → Option (List Placed)
+silence_at note e = option_map (λ (line : record { now : Line }). placed note line.now) (slice_get e.2.now 0)
+
+-- a part: a rule, on a side
+abbrev pub Part : Type 0
+Part = Bool × Rule
+
+abbrev pub rows : Part → List (List Placed)
+rows p = option_map_or (λ (e : Entry). rows_at (turned e.1 p.0) e) (entry_of p.1) []
+
+abbrev pub silence : Part → Option (List Placed)
+silence p = option_and_then (λ (e : Entry). silence_at (turned e.1 p.0) e) (entry_of p.1)

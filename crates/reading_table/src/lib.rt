@@ -1,0 +1,17 @@
+//! The reading table of the grammar.
+#![tactic(auto)]
+
+mod held;
+mod laws;
+mod notation;
+mod rows;
+mod rule;
+mod starts;
+mod symbol;
+
+pub use held::Held;
+pub use laws::{reading_stops_where_no_tokens_go_on, the_next_token_tells_the_row};
+pub use rows::{ROWS, Row};
+pub use rule::Rule;
+pub use starts::STARTS;
+pub use symbol::{Form, Symbol, Tokens};
