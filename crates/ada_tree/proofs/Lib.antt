@@ -2,6 +2,5 @@ pub mod evaluator
 pub mod examples
 pub mod Found
 pub mod Parts
-pub mod round_trip
 pub mod Trees
 pub mod Weights

@@ -1,5 +1,3 @@
-pub mod apart
 pub mod Lengths
 pub mod lexing
-pub mod rendering
 pub mod Turns

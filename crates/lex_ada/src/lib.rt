@@ -9,9 +9,6 @@ mod text;
 mod token;
 mod words;
 
-pub use laws::{
-    a_text_has_one_answer, lines_join, rendered_text_has_the_tokens, tokens_stand_in_order,
-    written_files_are_read,
-};
+pub use laws::{a_text_has_one_answer, lines_join, tokens_stand_in_order};
 pub use lex::tokens;
 pub use token::{Token, TokenKind, Tokens};

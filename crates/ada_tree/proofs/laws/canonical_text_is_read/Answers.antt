@@ -1,5 +1,0 @@
-use Rattle.ada_tree.proofs.round_trip.Whole.{canonical_is_read}
-use Rattle.ada_tree.proofs.laws.canonical_text_is_read.Goals as goal
-
-pub returns : goal.returns
-returns c = canonical_is_read

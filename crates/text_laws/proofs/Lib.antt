@@ -1,0 +1,3 @@
+mod apart
+mod rendering
+mod round_trip
