@@ -1,0 +1,10 @@
+//! Linear certificates: whether a weighted sum of a sequent's facts is a contradiction.
+#![tactic(auto)]
+
+mod closing;
+mod facts;
+mod shapes;
+mod laws;
+
+pub use closing::closes;
+pub use laws::closing_sequents_are_valid;
