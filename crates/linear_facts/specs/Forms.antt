@@ -1,5 +1,5 @@
 -- Terms as forms: sums of whole numbers times atoms, and a constant.
-use Rattle.std.specs.Prelude.{ℕ, ℤ, pos, ◌+ℤ◌, ◌-ℤ◌, ◌*ℤ◌, neg_ℤ, List, [], ◌∷◌, ◌++◌, map, if◌then◌else◌, Option, Some, None}
+use Rattle.std.specs.Prelude.{ℕ, ℤ, pos, ◌+ℤ◌, ◌-ℤ◌, ◌*ℤ◌, neg_ℤ, List, [], ◌∷◌, ◌++◌, Bool, if◌then◌else◌, Option, Some, None}
 use Rattle.term_core.specs.declared.term.Oper.{Oper}
 use Rattle.term_core.specs.declared.term.Oper.TheVariants as oper
 use Rattle.term_core.specs.declared.term.Term.{Term}
@@ -7,7 +7,8 @@ use Rattle.term_core.specs.declared.term.Term.TheOpen.{Term-F}
 use Rattle.term_core.specs.declared.term.Term.TheViews.{out-Term, roll-Term}
 use Rattle.term_core.specs.declared.term.Term.TheFolds.{para-Term, map-Term}
 use Rattle.term_core.specs.Terms.{int}
-use Rattle.linear_facts.specs.Same.{same_term}
+use Rattle.term_core.specs.contracts.term.Term as term
+use Rattle.base_kit.specs.Sameness.{same}
 
 -- ---- how a term is taken apart
 
@@ -68,6 +69,10 @@ unfoldable pub over_shapes : {A : Type 0} → (Term → Shape A → A) → Term 
 over_shapes {A = A} step = para-Term A (λ layer. step (roll-Term (map-Term (Term × A) Term (λ p. p.0) layer)) (within_shape (λ p. p.1) (shaped (λ p. literal_of p.0) layer)))
 
 -- ---- forms
+
+-- whether two terms are the same, as they are written
+abbrev pub same_term : Term → Term → Bool
+same_term = same term.the_row.coded
 
 -- what a number of a form stands before
 pub data Part : Type 0 where

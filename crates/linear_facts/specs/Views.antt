@@ -6,6 +6,8 @@ use Rattle.linear_facts.specs.declared.facts.Fact.{Fact}
 use Rattle.linear_facts.specs.declared.facts.Fact.TheVariants as fact
 use Rattle.linear_facts.specs.declared.shapes.Shape.{Shape}
 use Rattle.linear_facts.specs.declared.shapes.Shape.TheVariants as shape
+use Rattle.linear_facts.specs.declared.lanes.Part.{Part}
+use Rattle.linear_facts.specs.declared.lanes.Part.TheVariants as part
 use Rattle.linear_facts.specs.Facts as facts
 use Rattle.linear_facts.specs.Forms as forms
 
@@ -24,3 +26,7 @@ fact_behind (fact.Equal a b) = facts.equal_to a.now b.now
 
 abbrev pub found : Option Fact → Option facts.Fact
 found = option_map fact_behind
+
+abbrev pub part_behind : Part → forms.Part
+part_behind (part.Atom t) = forms.atom t.now
+part_behind part.Constant = forms.constant

@@ -3,6 +3,7 @@
 
 mod closing;
 mod facts;
+mod lanes;
 mod shapes;
 mod laws;
 
