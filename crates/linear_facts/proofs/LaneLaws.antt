@@ -9,10 +9,10 @@ use Rattle.linear_facts.specs.declared.lanes.Lane.{Lane}
 use Rattle.linear_facts.specs.Forms.{Shape, literal, sum, difference, opposite, multiple, whole, shape_of, within_shape, Part, atom, constant}
 use Rattle.linear_facts.specs.Working.{is_lane_of, part_mark, seen, seen_by, seen_in, with_more}
 use Rattle.linear_facts.proofs.Integers.{times-sum, times-difference, times-opposite, opposite-times, times-times}
-use Rattle.linear_facts.proofs.ShapeLaws.{over_is}
+use Rattle.linear_facts.proofs.ShapeLaws.{over_at}
 
 pub seen_is : (lane : Lane) (t : Term) (s : Shape Term) → shape_of t ≡ s → seen_in lane t ≡ seen_by lane t (within_shape (seen_in lane) s)
-seen_is lane t s e = over_is (seen_by lane) t ∙ ap (λ s. seen_by lane t (within_shape (seen_in lane) s)) e
+seen_is lane = over_at (seen_by lane)
 
 -- the lane with the numbers of a term more, times a weight
 abbrev pub with_form : ℤ → Term → Lane → Lane

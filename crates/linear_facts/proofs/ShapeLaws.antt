@@ -71,6 +71,9 @@ module _ {A : Type 0} (step : Term → Shape A → A) where
   pub over_is : (t : Term) → over_shapes step t ≡ step t (within_shape (over_shapes step) (shape_of t))
   over_is t = ap (over_shapes step) (sym (roll-out-Term t)) ∙ (over_roll (out-Term t) ∙ ap (λ u. step u (within_shape (over_shapes step) (shape_of t))) (roll-out-Term t))
 
+  pub over_at : (t : Term) (s : Shape Term) → shape_of t ≡ s → over_shapes step t ≡ step t (within_shape (over_shapes step) s)
+  over_at t s e = over_is t ∙ ap (λ s. step t (within_shape (over_shapes step) s)) e
+
 -- ---- induction
 
 -- P of each term that a term is taken apart into

@@ -1,16 +1,19 @@
 -- What the code works with: marks that tell atoms apart quickly, lanes in which numbers of parts are added up, and the
 -- exact numbers of a form where all are small.
-use Rattle.std.specs.Prelude.{ℕ, ◌+◌, ◌*◌, ◌%◌, ◌≤◌, ◌^◌, ℤ, pos, ◌+ℤ◌, ◌-ℤ◌, ◌*ℤ◌, neg_ℤ, unsigned_abs, nat_le, List, [], ◌∷◌, map, fold, Bool, true, false, ◌&&◌, ◌||◌, ◌==◌, if◌then◌else◌, Option, Some, None}
+use Rattle.std.specs.Prelude.{ℕ, ◌+◌, ◌*◌, ◌%◌, ◌≤◌, ◌^◌, ℤ, pos, ◌+ℤ◌, ◌-ℤ◌, ◌*ℤ◌, neg_ℤ, unsigned_abs, nat_le, nat_lt, int_lt, count_by, is_some, List, [], ◌∷◌, ◌++◌, fold, Bool, true, false, not, ◌&&◌, ◌||◌, ◌==◌, if◌then◌else◌, Option, Some, None}
 use Rattle.std.specs.List.{list_all}
 use Rattle.std.specs.Int.{int_wrap}
 use Rattle.std.specs.Option.{option_map, option_and_then}
+use Rattle.std.specs.Ordering.{int_eq}
 use mir.Syntax.{w128}
 use Rattle.term_core.specs.declared.term.Term.{Term}
 use Rattle.term_core.specs.declared.term.Term.TheOpen.{Term-F}
 use Rattle.term_core.specs.declared.term.Term.TheFolds.{fold-Term}
 use Rattle.linear_facts.specs.declared.lanes.Lane.{Lane}
 use Rattle.linear_facts.specs.declared.lanes.TheConstants.{MARKS, SPREAD}
-use Rattle.linear_facts.specs.Closing.{most_number}
+use Rattle.term_core.specs.declared.sequent.Sequent.{Sequent}
+use Rattle.term_core.specs.Operations.{is_zero}
+use Rattle.linear_facts.specs.Closing.{each_may_weigh, total, most_coefficient, most_number}
 use Rattle.linear_facts.specs.Facts.{Fact, at_most, below, equal_to}
 use Rattle.linear_facts.specs.Forms.{Shape, literal, sum, difference, opposite, multiple, whole, over_shapes, Part, atom, constant, number, same_term}
 use Rattle.linear_facts.specs.Views.{part_behind}
@@ -81,17 +84,99 @@ with_more n lane = record lane { sum = int_wrap w128 (lane.sum +ℤ n) }
 abbrev pub small : ℤ → Option ℤ
 small n = if nat_le (unsigned_abs n) most_number then Some n else None
 
-abbrev pub small_of_two : (ℤ → ℤ → ℤ) → Option ℤ → Option ℤ → Option ℤ
-small_of_two f a b = option_and_then (λ x. option_and_then (λ y. small (f x y)) b) a
+abbrev pub small_of : (ℤ → ℤ → ℤ) → Option ℤ → Option ℤ → Option ℤ
+small_of f a b = option_and_then (λ x. option_and_then (λ y. small (f x y)) b) a
 
 abbrev pub number_by : Part → Term → Shape (Option ℤ) → Option ℤ
 number_by p t (literal n) = option_map (λ n. number n p) (small n)
-number_by p t (sum a b) = small_of_two ◌+ℤ◌ a b
-number_by p t (difference a b) = small_of_two ◌-ℤ◌ a b
-number_by p t (opposite a) = option_map neg_ℤ a
-number_by p t (multiple n a) = small_of_two ◌*ℤ◌ (small n) a
+number_by p t (sum a b) = small_of ◌+ℤ◌ a b
+number_by p t (difference a b) = small_of ◌-ℤ◌ a b
+number_by p t (opposite a) = small_of ◌-ℤ◌ (Some (pos 0)) a
+number_by p t (multiple n a) = small_of ◌*ℤ◌ (small n) a
 number_by p t whole = Some (if same_part (atom t) p then pos 1 else pos 0)
 
--- the number of a part in a term's form, if no number of that part, and no literal, is too large in it or in the terms taken apart
+-- the number of a part in a term's form; none where a literal, or a number of the part, is too large in a term taken apart
 abbrev pub number_at : Part → Term → Option ℤ
 number_at p = over_shapes (number_by p)
+
+abbrev pub left_of : Fact → Term
+left_of (at_most a b) = a
+left_of (below a b) = a
+left_of (equal_to a b) = a
+
+abbrev pub right_of : Fact → Term
+right_of (at_most a b) = b
+right_of (below a b) = b
+right_of (equal_to a b) = b
+
+-- what the form of a fact has besides the difference
+abbrev pub extra_of : Fact → ℤ
+extra_of (below a b) = pos 1
+extra_of _ = pos 0
+
+abbrev pub fact_number_at : Part → Fact → Option ℤ
+fact_number_at p fact = small_of (λ x y. x -ℤ y +ℤ number (extra_of fact) p) (number_at p (left_of fact)) (number_at p (right_of fact))
+
+-- ---- sizes: numbers added up without their signs, over all parts
+
+abbrev pub small_size : ℕ → Option ℕ
+small_size m = if nat_le m most_number then Some m else None
+
+abbrev pub size_of_two : (ℕ → ℕ → ℕ) → Option ℕ → Option ℕ → Option ℕ
+size_of_two f a b = option_and_then (λ x. option_and_then (λ y. small_size (f x y)) b) a
+
+abbrev pub size_by : Term → Shape (Option ℕ) → Option ℕ
+size_by t (literal n) = small_size (unsigned_abs n)
+size_by t (sum a b) = size_of_two ◌+◌ a b
+size_by t (difference a b) = size_of_two ◌+◌ a b
+size_by t (opposite a) = a
+size_by t (multiple n a) = size_of_two ◌*◌ (small_size (unsigned_abs n)) a
+size_by t whole = Some 1
+
+abbrev pub size_at : Term → Option ℕ
+size_at = over_shapes size_by
+
+abbrev pub fact_size : Fact → Option ℕ
+fact_size fact = size_of_two (λ x y. x + y + 1) (size_at (left_of fact)) (size_at (right_of fact))
+
+-- no number of the part is too large in the fact; where the size is small none of any part is
+abbrev pub fits_at : Part → Fact → Bool
+fits_at p fact = is_some (fact_size fact) || is_some (fact_number_at p fact)
+
+-- ---- parts that are as they should be
+
+abbrev pub fit_at : List (ℤ × Fact) → Part → Bool
+fit_at ws p = list_all (λ w. fits_at p w.1) ws
+
+-- the part is within its bounds, and adds up to 0
+abbrev pub is_right : List (ℤ × Fact) → Part → Bool
+is_right ws p = fit_at ws p && int_eq (int_wrap w128 (total ws p)) (pos 0)
+
+abbrev pub is_contradiction : List (ℤ × Fact) → Bool
+is_contradiction ws = fit_at ws constant && int_lt (pos 0) (int_wrap w128 (total ws constant))
+
+-- ---- the atoms of forms, in order
+
+abbrev pub atoms_by : Term → Shape (List Part) → List Part
+atoms_by t (literal n) = []
+atoms_by t (sum ps qs) = ps ++ qs
+atoms_by t (difference ps qs) = ps ++ qs
+atoms_by t (opposite ps) = ps
+atoms_by t (multiple n ps) = ps
+atoms_by t whole = atom t ∷ []
+
+abbrev pub atoms_of : Term → List Part
+atoms_of = over_shapes atoms_by
+
+abbrev pub atoms_in : Fact → List Part
+atoms_in fact = atoms_of (left_of fact) ++ atoms_of (right_of fact)
+
+abbrev pub all_atoms : List (ℤ × Fact) → List Part
+all_atoms [] = []
+all_atoms (w ∷ ws) = atoms_in w.1 ++ all_atoms ws
+
+-- ---- the rules on coefficients
+
+abbrev pub keeps_rules : Sequent → List ℤ → Bool
+keeps_rules sequent cs = each_may_weigh sequent 0 cs && list_all (λ c. nat_le (unsigned_abs c) most_coefficient) cs
+    && nat_lt (count_by (λ c. not (is_zero c)) cs) (2 ^ 32)

@@ -3,6 +3,7 @@ ghost use Rattle.std.specs.Prelude.{◌≡◌, map, if◌then◌else◌, Option,
 ghost use Rattle.std.specs.Option.{option_map};
 ghost use Rattle.linear_facts.specs.Facts.{denied, comparison, bound, is_number_sort, gives_no_number, may_be_number, equation, fact_of, against, hypothesis_at, fact_at, is_equation};
 ghost use Rattle.linear_facts.specs.Views.{fact_behind, found};
+ghost use Rattle.linear_facts.specs.Working.{left_of, right_of, extra_of};
 ghost use Rattle.term_core.specs.Validity.{sort_in};
 ghost use Rattle.term_core.specs.declared.sort.Sort.TheViews.{out-Sort};
 
@@ -29,6 +30,36 @@ impl<'a> Fact<'a> {
             Fact::AtMost(a, b) => Some(Fact::Below(b, a)),
             Fact::Below(a, b) => Some(Fact::AtMost(b, a)),
             Fact::Equal(_, _) => None,
+        }
+    }
+
+    pub fn left(self) -> &'a Term
+        ensures { result.now ≡ left_of (fact_behind self.entry) }
+    {
+        match self {
+            Fact::AtMost(a, _) => a,
+            Fact::Below(a, _) => a,
+            Fact::Equal(a, _) => a,
+        }
+    }
+
+    pub fn right(self) -> &'a Term
+        ensures { result.now ≡ right_of (fact_behind self.entry) }
+    {
+        match self {
+            Fact::AtMost(_, b) => b,
+            Fact::Below(_, b) => b,
+            Fact::Equal(_, b) => b,
+        }
+    }
+
+    /// What d has besides the difference.
+    pub fn extra(self) -> i64
+        ensures { result ≡ extra_of (fact_behind self.entry) }
+    {
+        match self {
+            Fact::Below(_, _) => 1,
+            _ => 0,
         }
     }
 

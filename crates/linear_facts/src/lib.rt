@@ -1,6 +1,7 @@
 //! Linear certificates: whether a weighted sum of a sequent's facts is a contradiction.
 #![tactic(auto)]
 
+mod bounds;
 mod closing;
 mod facts;
 mod lanes;
