@@ -102,3 +102,17 @@ added_opposite w v t a xs ys s e h = h ∙ (ap (λ v. map (with_form v a) xs) e 
 pub added_multiple : (w n v : ℤ) (t a : Term) (xs ys : List Lane) → shape_of t ≡ multiple n a → v ≡ int_wrap w128 (w *ℤ n) → ys ≡ map (with_form v a) xs → ys ≡ map (with_form w t) xs
 added_multiple w n v t a xs ys s e h = h ∙ (ap (λ v. map (with_form v a) xs) e ∙ mapped_alike (with_form (int_wrap w128 (w *ℤ n)) a) (with_form w t) (λ lane.
     with_multiple w n a lane ∙ ap (λ x. with_more (w *ℤ x) lane) (sym (seen_is lane t (multiple n a) s))) xs)
+
+pub added_fact : (w v u extra : ℤ) (a b : Term) (ks xs ys zs : List Lane) → v ≡ int_wrap w128 (neg_ℤ w) → u ≡ int_wrap w128 (w *ℤ extra)
+    → xs ≡ map (with_form w a) ks → ys ≡ map (with_form v b) xs → zs ≡ map (λ lane. with_more (seen lane constant u) lane) ys
+    → zs ≡ map (λ lane. with_more (w *ℤ (seen_in lane a -ℤ seen_in lane b +ℤ seen lane constant extra)) lane) ks
+added_fact w v u extra a b ks xs ys zs ev eu h k l =
+    let v' = int_wrap w128 (neg_ℤ w) in
+    let u' = int_wrap w128 (w *ℤ extra) in
+    let both = λ (lane : Lane). with_form v' b (with_form w a lane) in
+    l ∙ ((λ i. map (λ lane. with_more (seen lane constant (eu i)) lane) ((k ∙ (λ i. map (with_form (ev i) b) (h i))) i))
+    ∙ (ap (map (λ lane. with_more (seen lane constant u') lane)) (mapped_twice (with_form w a) (with_form v' b) both (λ lane. refl) ks)
+    ∙ mapped_twice both (λ lane. with_more (seen lane constant u') lane) (λ lane. with_more (w *ℤ (seen_in lane a -ℤ seen_in lane b +ℤ seen lane constant extra)) lane) (λ lane.
+        with_literal w extra (both lane) ∙ (ap (with_more (w *ℤ seen lane constant extra)) (with_difference w a b lane)
+        ∙ (more_twice (w *ℤ (seen_in lane a -ℤ seen_in lane b)) (w *ℤ seen lane constant extra) lane
+        ∙ ap (λ x. with_more x lane) (sym (times-sum w (seen_in lane a -ℤ seen_in lane b) (seen lane constant extra)))))) ks))

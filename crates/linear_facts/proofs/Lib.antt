@@ -1,3 +1,4 @@
 pub mod Integers
 pub mod LaneLaws
 pub mod ShapeLaws
+pub mod WeightLaws

@@ -1,6 +1,6 @@
 -- What the code works with: marks that tell atoms apart quickly, lanes in which numbers of parts are added up, and the
 -- exact numbers of a form where all are small.
-use Rattle.std.specs.Prelude.{ℕ, ◌+◌, ◌*◌, ◌%◌, ◌≤◌, ◌^◌, ℤ, pos, ◌+ℤ◌, ◌-ℤ◌, ◌*ℤ◌, neg_ℤ, unsigned_abs, nat_le, nat_lt, int_lt, count_by, is_some, List, [], ◌∷◌, ◌++◌, fold, Bool, true, false, not, ◌&&◌, ◌||◌, ◌==◌, if◌then◌else◌, Option, Some, None}
+use Rattle.std.specs.Prelude.{◌≡◌, ℕ, ◌+◌, ◌*◌, ◌%◌, ◌≤◌, ◌^◌, ℤ, pos, ◌+ℤ◌, ◌-ℤ◌, ◌*ℤ◌, neg_ℤ, unsigned_abs, nat_le, nat_lt, int_lt, count_by, is_some, List, [], ◌∷◌, ◌++◌, fold, Bool, true, false, not, ◌&&◌, ◌||◌, ◌==◌, if◌then◌else◌, Option, Some, None}
 use Rattle.std.specs.List.{list_all}
 use Rattle.std.specs.Int.{int_wrap}
 use Rattle.std.specs.Option.{option_map, option_and_then}
@@ -35,6 +35,23 @@ mark_step (Term-F.Some x low high body) = mixed (mixed high low) body
 abbrev pub mark_of : Term → ℕ
 mark_of = fold-Term ℕ mark_step
 
+-- ---- facts
+
+abbrev pub left_of : Fact → Term
+left_of (at_most a b) = a
+left_of (below a b) = a
+left_of (equal_to a b) = a
+
+abbrev pub right_of : Fact → Term
+right_of (at_most a b) = b
+right_of (below a b) = b
+right_of (equal_to a b) = b
+
+-- what the form of a fact has besides the difference
+abbrev pub extra_of : Fact → ℤ
+extra_of (below a b) = pos 1
+extra_of _ = pos 0
+
 -- ---- lanes
 
 abbrev pub same_part : Part → Part → Bool
@@ -65,18 +82,17 @@ seen_by lane t whole = seen lane (atom t) (pos 1)
 abbrev pub seen_in : Lane → Term → ℤ
 seen_in lane = over_shapes (seen_by lane)
 
-abbrev pub seen_in_fact : Lane → Fact → ℤ
-seen_in_fact lane (at_most a b) = seen_in lane a -ℤ seen_in lane b
-seen_in_fact lane (below a b) = (seen_in lane a -ℤ seen_in lane b) +ℤ seen lane constant (pos 1)
-seen_in_fact lane (equal_to a b) = seen_in lane a -ℤ seen_in lane b
-
-abbrev pub seen_in_all : Lane → List (ℤ × Fact) → ℤ
-seen_in_all lane [] = pos 0
-seen_in_all lane (w ∷ ws) = w.0 *ℤ seen_in_fact lane w.1 +ℤ seen_in_all lane ws
-
 -- a lane with a number more, in 128 bits
 abbrev pub with_more : ℤ → Lane → Lane
 with_more n lane = record lane { sum = int_wrap w128 (lane.sum +ℤ n) }
+
+-- a lane with the numbers of a fact more, times a weight
+abbrev pub with_fact : ℤ → Fact → Lane → Lane
+with_fact weight fact lane = with_more (weight *ℤ (seen_in lane (left_of fact) -ℤ seen_in lane (right_of fact) +ℤ seen lane constant (extra_of fact))) lane
+
+abbrev pub with_weights : List (ℤ × Fact) → Lane → Lane
+with_weights [] lane = lane
+with_weights (w ∷ ws) lane = with_weights ws (with_fact w.0 w.1 lane)
 
 -- ---- exact numbers
 
@@ -98,21 +114,6 @@ number_by p t whole = Some (if same_part (atom t) p then pos 1 else pos 0)
 -- the number of a part in a term's form; none where a literal, or a number of the part, is too large in a term taken apart
 abbrev pub number_at : Part → Term → Option ℤ
 number_at p = over_shapes (number_by p)
-
-abbrev pub left_of : Fact → Term
-left_of (at_most a b) = a
-left_of (below a b) = a
-left_of (equal_to a b) = a
-
-abbrev pub right_of : Fact → Term
-right_of (at_most a b) = b
-right_of (below a b) = b
-right_of (equal_to a b) = b
-
--- what the form of a fact has besides the difference
-abbrev pub extra_of : Fact → ℤ
-extra_of (below a b) = pos 1
-extra_of _ = pos 0
 
 abbrev pub fact_number_at : Part → Fact → Option ℤ
 fact_number_at p fact = small_of (λ x y. x -ℤ y +ℤ number (extra_of fact) p) (number_at p (left_of fact)) (number_at p (right_of fact))
@@ -142,6 +143,9 @@ fact_size fact = size_of_two (λ x y. x + y + 1) (size_at (left_of fact)) (size_
 -- no number of the part is too large in the fact; where the size is small none of any part is
 abbrev pub fits_at : Part → Fact → Bool
 fits_at p fact = is_some (fact_size fact) || is_some (fact_number_at p fact)
+
+abbrev pub fits_each : List Lane → Fact → Bool
+fits_each lanes fact = is_some (fact_size fact) || list_all (λ lane. is_some (fact_number_at (part_behind lane.part) fact)) lanes
 
 -- ---- parts that are as they should be
 
@@ -180,3 +184,8 @@ all_atoms (w ∷ ws) = atoms_in w.1 ++ all_atoms ws
 abbrev pub keeps_rules : Sequent → List ℤ → Bool
 keeps_rules sequent cs = each_may_weigh sequent 0 cs && list_all (λ c. nat_le (unsigned_abs c) most_coefficient) cs
     && nat_lt (count_by (λ c. not (is_zero c)) cs) (2 ^ 32)
+
+-- a lane that nothing was added to
+pub record IsFresh (lane : Lane) : Type 0 where
+  pub mark : lane.mark ≡ part_mark (part_behind lane.part)
+  pub sum : lane.sum ≡ pos 0

@@ -1,10 +1,10 @@
 // The bound of 10^18 on the numbers of forms.
-ghost use Rattle.std.specs.Prelude.{◌≡◌, ◌+◌, ◌*◌, ◌+ℤ◌, ◌-ℤ◌, ◌*ℤ◌, pos, unsigned_abs, Some, if◌then◌else◌};
+ghost use Rattle.std.specs.Prelude.{◌≡◌, ◌+◌, ◌*◌, ◌+ℤ◌, ◌-ℤ◌, ◌*ℤ◌, pos, unsigned_abs, is_some, Some, if◌then◌else◌};
 ghost use Rattle.std.specs.Option.{option_map};
 ghost use Rattle.linear_facts.specs.Closing.{most_number};
 ghost use Rattle.linear_facts.specs.Views.{fact_behind, part_behind};
 ghost use Rattle.linear_facts.specs.Forms.{number, atom};
-ghost use Rattle.linear_facts.specs.Working.{same_part, small, small_of, number_at, fact_number_at, small_size, size_of_two, size_at, fact_size};
+ghost use Rattle.linear_facts.specs.Working.{same_part, small, small_of, number_at, extra_of, fact_number_at, small_size, size_of_two, size_at, fact_size};
 
 use crate::facts::Fact;
 use crate::lanes::Part;
@@ -131,4 +131,50 @@ fn size_in(term: &Term) -> Option<u64>
         Shape::Multiple(value, inner) => size_product(literal_size(value), size_in(inner)),
         Shape::Atom => Some(1),
     }
+}
+
+// ---- facts
+
+fn difference(left: i64, right: i64, extra: i64) -> i128
+    ensures { result ≡ left -ℤ right +ℤ extra }
+{
+    left as i128 - right as i128 + extra as i128
+}
+
+// The part's number in the fact's form.
+fn fact_number(left: Option<i64>, right: Option<i64>, extra: i64) -> Option<i64>
+    ensures { result ≡ small_of (λ x y. x -ℤ y +ℤ extra) left right }
+{
+    small(difference(left?, right?, extra))
+}
+
+/// Whether no literal, and no number of the part, is too large in the fact.
+pub fn fits<'a>(fact: Fact<'a>, part: Part<'a>) -> bool
+    ensures { result ≡ is_some (fact_number_at (part_behind part.entry) (fact_behind fact.entry)) }
+{
+    let left = number_in(fact.left(), part);
+    let right = number_in(fact.right(), part);
+    fact_number(left, right, extra_number(fact, part)).is_some()
+}
+
+fn extra_number<'a>(fact: Fact<'a>, part: Part<'a>) -> i64
+    ensures { result ≡ number (extra_of (fact_behind fact.entry)) (part_behind part.entry) }
+{
+    match part {
+        Part::Atom(_) => 0,
+        Part::Constant => fact.extra(),
+    }
+}
+
+fn fact_size(left: Option<u64>, right: Option<u64>) -> Option<u64>
+    ensures { result ≡ size_of_two (λ x y. x + y + 1) left right }
+{
+    small_size(left? as u128 + right? as u128 + 1)
+}
+
+/// Whether the fact's numbers are so small that none of any part is too large.
+pub fn is_light(fact: Fact) -> bool
+    ensures { result ≡ is_some (fact_size (fact_behind fact.entry)) }
+{
+    fact_size(size_in(fact.left()), size_in(fact.right())).is_some()
 }

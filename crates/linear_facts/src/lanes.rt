@@ -2,10 +2,11 @@
 ghost use Rattle.std.specs.Prelude.{◌≡◌, ℕ, ◌%◌, ◌+ℤ◌, ◌*ℤ◌, neg_ℤ, pos, map, unsigned_abs, if◌then◌else◌};
 ghost use Rattle.std.specs.Int.{int_wrap};
 ghost use mir.Syntax.{w128};
-ghost use Rattle.linear_facts.specs.Views.{part_behind};
-ghost use Rattle.linear_facts.specs.Working.{mixed, mark_of, same_part, part_mark, is_lane_of, seen, seen_in, with_more};
+ghost use Rattle.linear_facts.specs.Views.{fact_behind, part_behind};
+ghost use Rattle.linear_facts.specs.Working.{mixed, mark_of, same_part, part_mark, is_lane_of, seen, seen_in, with_more, with_fact};
 ghost use Rattle.linear_facts.specs.Forms.{same_term};
 
+use crate::facts::Fact;
 use crate::shapes::{Shape, shape_of};
 use term_core::{Term, equal};
 
@@ -20,6 +21,12 @@ const SPREAD: u64 = 1_000_003;
 pub enum Part<'a> {
     Atom(&'a Term),
     Constant,
+}
+
+impl<'a> Default for Part<'a> {
+    fn default() -> Part<'a> {
+        Part::Constant
+    }
 }
 
 /// A part, its mark, and what its numbers add up to, in 128 bits.
@@ -104,7 +111,25 @@ impl<'a> Part<'a> {
     }
 }
 
+impl<'a> Default for Lane<'a> {
+    fn default() -> Lane<'a> {
+        Lane::of(Part::Constant)
+    }
+}
+
 impl<'a> Lane<'a> {
+    pub fn of(part: Part<'a>) -> Lane<'a>
+        ensures part { result.part ≡ part.entry }
+        ensures mark { result.mark ≡ part_mark (part_behind part.entry) }
+        ensures sum { result.sum ≡ pos 0 }
+    {
+        Lane {
+            part,
+            mark: part.mark(),
+            sum: 0,
+        }
+    }
+
     fn is_of(&self, part: Part<'a>, mark: u32) -> bool
         ensures { result ≡ is_lane_of self.now (part_behind part.entry) mark }
     {
@@ -170,4 +195,13 @@ pub fn add_form<'a>(lanes: &mut [Lane<'a>], term: &'a Term, weight: i128)
         Shape::Multiple(value, inner) => add_form(lanes, inner, product(weight, value)),
         Shape::Atom => add_to(lanes, Part::Atom(term), weight),
     }
+}
+
+/// Adds the numbers of the fact's form, times the weight, to the lanes.
+pub fn add_fact<'a>(lanes: &mut [Lane<'a>], fact: Fact<'a>, weight: i128)
+    ensures { lanes.new ≡ map (λ lane. with_fact weight (fact_behind fact.entry) lane) lanes.old }
+{
+    add_form(lanes, fact.left(), weight);
+    add_form(lanes, fact.right(), opposite(weight));
+    add_to(lanes, Part::Constant, product(weight, fact.extra() as i128));
 }
