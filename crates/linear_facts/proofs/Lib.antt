@@ -1,4 +1,6 @@
 pub mod Integers
 pub mod LaneLaws
 pub mod ShapeLaws
+pub mod SumLaws
 pub mod WeightLaws
+pub mod WindowLaws

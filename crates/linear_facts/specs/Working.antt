@@ -10,10 +10,11 @@ use Rattle.term_core.specs.declared.term.Term.{Term}
 use Rattle.term_core.specs.declared.term.Term.TheOpen.{Term-F}
 use Rattle.term_core.specs.declared.term.Term.TheFolds.{fold-Term}
 use Rattle.linear_facts.specs.declared.lanes.Lane.{Lane}
+use Rattle.linear_facts.specs.declared.lanes.Part as parts
 use Rattle.linear_facts.specs.declared.lanes.TheConstants.{MARKS, SPREAD}
 use Rattle.term_core.specs.declared.sequent.Sequent.{Sequent}
 use Rattle.term_core.specs.Operations.{is_zero}
-use Rattle.linear_facts.specs.Closing.{each_may_weigh, total, most_coefficient, most_number}
+use Rattle.linear_facts.specs.Closing.{each_may_weigh, weights, total, most_coefficient, most_number}
 use Rattle.linear_facts.specs.Facts.{Fact, at_most, below, equal_to}
 use Rattle.linear_facts.specs.Forms.{Shape, literal, sum, difference, opposite, multiple, whole, over_shapes, Part, atom, constant, number, same_term}
 use Rattle.linear_facts.specs.Views.{part_behind}
@@ -65,7 +66,7 @@ part_mark constant = 0
 
 -- whether a lane is that of a part with this mark
 abbrev pub is_lane_of : Lane → Part → ℕ → Bool
-is_lane_of lane part mark = lane.mark == mark && same_part (part_behind lane.part) part
+is_lane_of lane part mark = lane.mark == mark && same_part part (part_behind lane.part)
 
 -- a number that is added where the lane is that of the part
 abbrev pub seen : Lane → Part → ℤ → ℤ
@@ -156,6 +157,9 @@ fit_at ws p = list_all (λ w. fits_at p w.1) ws
 abbrev pub is_right : List (ℤ × Fact) → Part → Bool
 is_right ws p = fit_at ws p && int_eq (int_wrap w128 (total ws p)) (pos 0)
 
+abbrev pub all_right : Sequent → List ℤ → List parts.Part → Bool
+all_right sequent cs ps = list_all (λ p. is_right (weights sequent cs) (part_behind p)) ps
+
 abbrev pub is_contradiction : List (ℤ × Fact) → Bool
 is_contradiction ws = fit_at ws constant && int_lt (pos 0) (int_wrap w128 (total ws constant))
 
@@ -184,6 +188,10 @@ all_atoms (w ∷ ws) = atoms_in w.1 ++ all_atoms ws
 abbrev pub keeps_rules : Sequent → List ℤ → Bool
 keeps_rules sequent cs = each_may_weigh sequent 0 cs && list_all (λ c. nat_le (unsigned_abs c) most_coefficient) cs
     && nat_lt (count_by (λ c. not (is_zero c)) cs) (2 ^ 32)
+
+-- what the code asks
+abbrev pub is_closed : Sequent → List ℤ → Bool
+is_closed sequent cs = keeps_rules sequent cs && is_contradiction (weights sequent cs) && list_all (is_right (weights sequent cs)) (all_atoms (weights sequent cs))
 
 -- a lane that nothing was added to
 pub record IsFresh (lane : Lane) : Type 0 where

@@ -133,7 +133,7 @@ impl<'a> Lane<'a> {
     fn is_of(&self, part: Part<'a>, mark: u32) -> bool
         ensures { result ≡ is_lane_of self.now (part_behind part.entry) mark }
     {
-        self.mark == mark && self.part.is(part)
+        self.mark == mark && part.is(self.part)
     }
 
     // The lane with the number more, if it is that of the part.
