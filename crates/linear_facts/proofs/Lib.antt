@@ -1,3 +1,4 @@
+pub mod BoundLaws
 pub mod Integers
 pub mod LaneLaws
 pub mod ShapeLaws

@@ -46,10 +46,10 @@ first_failed done window first a b e d = ap (λ d. d && first) d ∙ (ap (λ x. 
 pub atoms_at : (t : Term) (s : Shape Term) → shape_of t ≡ s → atoms_of t ≡ atoms_by t (within_shape atoms_of s)
 atoms_at = over_at atoms_by
 
-pub all_in_sum : (right : Part → Bool) (t a b : Term) → shape_of t ≡ sum a b → list_all right (atoms_of t) ≡ (list_all right (atoms_of a) && list_all right (atoms_of b))
+pub all_in_sum : (right : Term → Bool) (t a b : Term) → shape_of t ≡ sum a b → list_all right (atoms_of t) ≡ (list_all right (atoms_of a) && list_all right (atoms_of b))
 all_in_sum right t a b s = ap (list_all right) (atoms_at t (sum a b) s) ∙ list_all-append right (atoms_of a) (atoms_of b)
 
-pub all_in_difference : (right : Part → Bool) (t a b : Term) → shape_of t ≡ difference a b → list_all right (atoms_of t) ≡ (list_all right (atoms_of a) && list_all right (atoms_of b))
+pub all_in_difference : (right : Term → Bool) (t a b : Term) → shape_of t ≡ difference a b → list_all right (atoms_of t) ≡ (list_all right (atoms_of a) && list_all right (atoms_of b))
 all_in_difference right t a b s = ap (list_all right) (atoms_at t (difference a b) s) ∙ list_all-append right (atoms_of a) (atoms_of b)
 
 pub and_true : (b : Bool) → b ≡ (b && true)

@@ -157,6 +157,9 @@ fit_at ws p = list_all (λ w. fits_at p w.1) ws
 abbrev pub is_right : List (ℤ × Fact) → Part → Bool
 is_right ws p = fit_at ws p && int_eq (int_wrap w128 (total ws p)) (pos 0)
 
+abbrev pub is_atom_right : List (ℤ × Fact) → Term → Bool
+is_atom_right ws t = is_right ws (atom t)
+
 abbrev pub all_right : Sequent → List ℤ → List parts.Part → Bool
 all_right sequent cs ps = list_all (λ p. is_right (weights sequent cs) (part_behind p)) ps
 
@@ -165,21 +168,21 @@ is_contradiction ws = fit_at ws constant && int_lt (pos 0) (int_wrap w128 (total
 
 -- ---- the atoms of forms, in order
 
-abbrev pub atoms_by : Term → Shape (List Part) → List Part
+abbrev pub atoms_by : Term → Shape (List Term) → List Term
 atoms_by t (literal n) = []
-atoms_by t (sum ps qs) = ps ++ qs
-atoms_by t (difference ps qs) = ps ++ qs
-atoms_by t (opposite ps) = ps
-atoms_by t (multiple n ps) = ps
-atoms_by t whole = atom t ∷ []
+atoms_by t (sum ts us) = ts ++ us
+atoms_by t (difference ts us) = ts ++ us
+atoms_by t (opposite ts) = ts
+atoms_by t (multiple n ts) = ts
+atoms_by t whole = t ∷ []
 
-abbrev pub atoms_of : Term → List Part
+abbrev pub atoms_of : Term → List Term
 atoms_of = over_shapes atoms_by
 
-abbrev pub atoms_in : Fact → List Part
+abbrev pub atoms_in : Fact → List Term
 atoms_in fact = atoms_of (left_of fact) ++ atoms_of (right_of fact)
 
-abbrev pub all_atoms : List (ℤ × Fact) → List Part
+abbrev pub all_atoms : List (ℤ × Fact) → List Term
 all_atoms [] = []
 all_atoms (w ∷ ws) = atoms_in w.1 ++ all_atoms ws
 
@@ -191,7 +194,7 @@ keeps_rules sequent cs = each_may_weigh sequent 0 cs && list_all (λ c. nat_le (
 
 -- what the code asks
 abbrev pub is_closed : Sequent → List ℤ → Bool
-is_closed sequent cs = keeps_rules sequent cs && is_contradiction (weights sequent cs) && list_all (is_right (weights sequent cs)) (all_atoms (weights sequent cs))
+is_closed sequent cs = keeps_rules sequent cs && is_contradiction (weights sequent cs) && list_all (is_atom_right (weights sequent cs)) (all_atoms (weights sequent cs))
 
 -- a lane that nothing was added to
 pub record IsFresh (lane : Lane) : Type 0 where

@@ -5,7 +5,7 @@ ghost use Rattle.std.specs.Ordering.{int_eq};
 ghost use Rattle.term_core.specs.Operations.{is_zero};
 ghost use Rattle.linear_facts.specs.Closing.{Closes, may_weigh, each_may_weigh, weighed, weights, most_coefficient};
 ghost use Rattle.linear_facts.specs.Views.{fact_behind, found, part_behind};
-ghost use Rattle.linear_facts.specs.Working.{keeps_rules, is_closed, with_weights, fact_number_at, fits_each, IsFresh, same_part, is_right, is_contradiction, all_right, atoms_of, atoms_in, all_atoms};
+ghost use Rattle.linear_facts.specs.Working.{keeps_rules, is_closed, with_weights, fact_number_at, fits_each, IsFresh, same_part, is_right, is_atom_right, is_contradiction, all_right, atoms_of, atoms_in, all_atoms};
 
 use crate::bounds::{fits, is_light};
 use crate::facts::{Fact, fact_at};
@@ -203,7 +203,7 @@ fn take_atoms<'a>(
     term: &'a Term,
 ) -> bool
     ensures { (result && all_right sequent.now coeffs.now window.new.items)
-        ≡ (all_right sequent.now coeffs.now window.old.items && list_all (is_right (weights sequent.now coeffs.now)) (atoms_of term.now)) }
+        ≡ (all_right sequent.now coeffs.now window.old.items && list_all (is_atom_right (weights sequent.now coeffs.now)) (atoms_of term.now)) }
 {
     match shape_of(term) {
         Shape::Literal(_) => true,
@@ -228,7 +228,7 @@ fn take_weight<'a>(
     fact: Option<Fact<'a>>,
 ) -> bool
     ensures { (result && all_right sequent.now coeffs.now window.new.items)
-        ≡ (all_right sequent.now coeffs.now window.old.items && list_all (is_right (weights sequent.now coeffs.now)) (all_atoms (weighed coefficient (found fact.entry)))) }
+        ≡ (all_right sequent.now coeffs.now window.old.items && list_all (is_atom_right (weights sequent.now coeffs.now)) (all_atoms (weighed coefficient (found fact.entry)))) }
 {
     match fact {
         None => true,
@@ -242,7 +242,7 @@ fn take_weight<'a>(
 
 // Whether every atom of the facts that are weighed is right.
 fn are_atoms_right(sequent: &Sequent, coeffs: &[i64]) -> bool
-    ensures { result ≡ list_all (is_right (weights sequent.now coeffs.now)) (all_atoms (weights sequent.now coeffs.now)) }
+    ensures { result ≡ list_all (is_atom_right (weights sequent.now coeffs.now)) (all_atoms (weights sequent.now coeffs.now)) }
 {
     let mut window = ArrayVec::new();
     for (i, coefficient) in coeffs.iter().enumerate() {
