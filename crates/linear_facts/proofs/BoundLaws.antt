@@ -25,15 +25,15 @@ abbrev pub Every : {A : Type 0} → (A → Type 0) → List A → Type 0
 Every P [] = Unit {0}
 Every P (x ∷ xs) = P x × Every P xs
 
-every_append : {A : Type 0} (P : A → Type 0) (xs ys : List A) → Every P xs → Every P ys → Every P (xs ++ ys)
+pub every_append : {A : Type 0} (P : A → Type 0) (xs ys : List A) → Every P xs → Every P ys → Every P (xs ++ ys)
 every_append P [] ys h k = k
 every_append P (x ∷ xs) ys h k = (h.0, every_append P xs ys h.1 k)
 
-every_left : {A : Type 0} (P : A → Type 0) (xs ys : List A) → Every P (xs ++ ys) → Every P xs
+pub every_left : {A : Type 0} (P : A → Type 0) (xs ys : List A) → Every P (xs ++ ys) → Every P xs
 every_left P [] ys h = tt
 every_left P (x ∷ xs) ys h = (h.0, every_left P xs ys h.1)
 
-every_right : {A : Type 0} (P : A → Type 0) (xs ys : List A) → Every P (xs ++ ys) → Every P ys
+pub every_right : {A : Type 0} (P : A → Type 0) (xs ys : List A) → Every P (xs ++ ys) → Every P ys
 every_right P [] ys h = h
 every_right P (x ∷ xs) ys h = every_right P xs ys h.1
 
@@ -100,7 +100,7 @@ int_number n p = number_is (int n) (literal n) p (ap (shaped literal_of) (out-ro
 abbrev pub Found : Part → Term → Type 0
 Found p t = (z : ℤ) → number_at p t ≡ Some z → (z ≡ form t p) × Within p t
 
-small_two : (f : ℤ → ℤ → ℤ) (a b : Option ℤ) (z : ℤ) → small_of f a b ≡ Some z → (x : ℤ) × ((y : ℤ) × ((a ≡ Some x) × ((b ≡ Some y) × ((f x y ≡ z) × (unsigned_abs (f x y) ≤ most_number)))))
+pub small_two : (f : ℤ → ℤ → ℤ) (a b : Option ℤ) (z : ℤ) → small_of f a b ≡ Some z → (x : ℤ) × ((y : ℤ) × ((a ≡ Some x) × ((b ≡ Some y) × ((f x y ≡ z) × (unsigned_abs (f x y) ≤ most_number)))))
 small_two f a b z e =
     let p = parts_of a (λ x. option_and_then (λ y. small (f x y)) b) z e in
     let q = parts_of b (λ y. small (f p.0 y)) z p.1.1 in
@@ -154,7 +154,7 @@ found_is p t z e = (found p t z e).0
 abbrev pub Finds : Part → Term → Type 0
 Finds p t = ((q : Part) → Within q t) → (z : ℤ) × (number_at p t ≡ Some z)
 
-both_found : (f : ℤ → ℤ → ℤ) (a b : Option ℤ) (x y : ℤ) → a ≡ Some x → b ≡ Some y → unsigned_abs (f x y) ≤ most_number → small_of f a b ≡ Some (f x y)
+pub both_found : (f : ℤ → ℤ → ℤ) (a b : Option ℤ) (x y : ℤ) → a ≡ Some x → b ≡ Some y → unsigned_abs (f x y) ≤ most_number → small_of f a b ≡ Some (f x y)
 both_found f a b x y ea eb h = (λ i. small_of f (ea i) (eb i)) ∙ small_is (f x y) h
 
 pub finds : (p : Part) (t : Term) → Finds p t
@@ -188,16 +188,16 @@ finds p = by_shape (Finds p) (λ t h w. let r = at t (shape_of t) refl h w in (r
 
 -- ---- sizes
 
-abs_sum : (a b : ℤ) (x y : ℕ) → unsigned_abs a ≤ x → unsigned_abs b ≤ y → unsigned_abs (a +ℤ b) ≤ x + y
+pub abs_sum : (a b : ℤ) (x y : ℕ) → unsigned_abs a ≤ x → unsigned_abs b ≤ y → unsigned_abs (a +ℤ b) ≤ x + y
 abs_sum a b x y h k = omega (arith, ints)
 
-abs_difference : (a b : ℤ) (x y : ℕ) → unsigned_abs a ≤ x → unsigned_abs b ≤ y → unsigned_abs (a -ℤ b) ≤ x + y
+pub abs_difference : (a b : ℤ) (x y : ℕ) → unsigned_abs a ≤ x → unsigned_abs b ≤ y → unsigned_abs (a -ℤ b) ≤ x + y
 abs_difference a b x y h k = omega (arith, ints)
 
 abs_opposite : (a : ℤ) (x : ℕ) → unsigned_abs a ≤ x → unsigned_abs (neg_ℤ a) ≤ x
 abs_opposite a x h = omega (arith, ints)
 
-abs_product : (a b : ℤ) (x y : ℕ) → unsigned_abs a ≤ x → unsigned_abs b ≤ y → unsigned_abs (a *ℤ b) ≤ x * y
+pub abs_product : (a b : ℤ) (x y : ℕ) → unsigned_abs a ≤ x → unsigned_abs b ≤ y → unsigned_abs (a *ℤ b) ≤ x * y
 abs_product a b x y h k = subst (λ n. n ≤ x * y) (sym (unsigned_abs-mul a b)) (mul-le-mul h k)
 
 at_most_one : (t : Term) (p : Part) → unsigned_abs (once t p) ≤ 1
@@ -208,7 +208,7 @@ at_most_one t (atom u) = by_test (same_term t u)
     by_test false = lit≤ tt
 at_most_one t constant = lit≤ tt
 
-at_most_literal : (n : ℤ) (p : Part) → unsigned_abs (number n p) ≤ unsigned_abs n
+pub at_most_literal : (n : ℤ) (p : Part) → unsigned_abs (number n p) ≤ unsigned_abs n
 at_most_literal n (atom t) = omega arith
 at_most_literal n constant = omega arith
 
@@ -222,7 +222,7 @@ size_parts m k = by_test (nat_le m most_number) refl
     by_test true t e = (is_some_of m k e, leb-true m most_number t)
     by_test false t e = absurd cc
 
-size_two : (f : ℕ → ℕ → ℕ) (a b : Option ℕ) (k : ℕ) → size_of_two f a b ≡ Some k → (x : ℕ) × ((y : ℕ) × ((a ≡ Some x) × ((b ≡ Some y) × ((f x y ≡ k) × (f x y ≤ most_number)))))
+pub size_two : (f : ℕ → ℕ → ℕ) (a b : Option ℕ) (k : ℕ) → size_of_two f a b ≡ Some k → (x : ℕ) × ((y : ℕ) × ((a ≡ Some x) × ((b ≡ Some y) × ((f x y ≡ k) × (f x y ≤ most_number)))))
 size_two f a b k e =
     let p = parts_of a (λ x. option_and_then (λ y. small_size (f x y)) b) k e in
     let q = parts_of b (λ y. small_size (f p.0 y)) k p.1.1 in
@@ -236,7 +236,7 @@ Sized t = (m : ℕ) → size_at t ≡ Some m → (m ≤ most_number) × ((p : Pa
 to_form : (t : Term) (p : Part) (z : ℤ) (x m : ℕ) → z ≡ form t p → x ≡ m → unsigned_abs z ≤ x → unsigned_abs (form t p) ≤ m
 to_form t p z x m e f h = subst (λ m. unsigned_abs (form t p) ≤ m) f (subst (λ z. unsigned_abs z ≤ x) e h)
 
-below_most : (a b c : ℕ) → a ≤ b → b ≤ c → a ≤ c
+pub below_most : (a b c : ℕ) → a ≤ b → b ≤ c → a ≤ c
 below_most a b c h k = omega arith
 
 pub size_bounds : (t : Term) → Sized t
@@ -281,7 +281,7 @@ size_bounds = by_shape Sized (λ t h m e. at t (shape_of t) refl h m (sym (over_
 
 -- ---- parts that don't occur
 
-none_of : (p : Part) (ts us : List Term) → list_any (λ t. same_part (atom t) p) (ts ++ us) ≡ false → (list_any (λ t. same_part (atom t) p) ts ≡ false) × (list_any (λ t. same_part (atom t) p) us ≡ false)
+pub none_of : (p : Part) (ts us : List Term) → list_any (λ t. same_part (atom t) p) (ts ++ us) ≡ false → (list_any (λ t. same_part (atom t) p) ts ≡ false) × (list_any (λ t. same_part (atom t) p) us ≡ false)
 none_of p [] us e = (refl, e)
 none_of p (t ∷ ts) us e = by_test (same_part (atom t) p) refl (λ k. none_of p ts us k)
   where
@@ -295,7 +295,7 @@ none_of p (t ∷ ts) us e = by_test (same_part (atom t) p) refl (λ k. none_of p
 abbrev pub Absent : Term → Term → Type 0
 Absent u t = list_any (λ t. same_part (atom t) (atom u)) (atoms_of t) ≡ false → (form t (atom u) ≡ pos 0) × Within (atom u) t
 
-no_size : (z : ℤ) → z ≡ pos 0 → unsigned_abs z ≤ most_number
+pub no_size : (z : ℤ) → z ≡ pos 0 → unsigned_abs z ≤ most_number
 no_size z e = subst (λ z. unsigned_abs z ≤ most_number) (sym e) (lit≤ tt)
 
 pub absent : (u t : Term) → Absent u t

@@ -1,4 +1,5 @@
 pub mod BoundLaws
+pub mod ClosingLaws
 pub mod Integers
 pub mod LaneLaws
 pub mod ShapeLaws
