@@ -4,5 +4,7 @@ pub mod Integers
 pub mod LaneLaws
 pub mod ShapeLaws
 pub mod SumLaws
+pub mod Summands
+pub mod Truths
 pub mod WeightLaws
 pub mod WindowLaws

@@ -1,0 +1,179 @@
+-- What forms and facts say of values, at any bound on equations.
+use Rattle.std.proofs.Common.{◌≡◌, ◌⊎◌, ℕ, ℤ, pos, negsuc, ◌+ℤ◌, ◌-ℤ◌, ◌*ℤ◌, ◌≤ℤ◌, ◌<ℤ◌, neg_ℤ, List, [], ◌∷◌, ◌++◌, map, Bool, true, false, not, ◌&&◌, if◌then◌else◌, Option, Some, None, refl, sym, ◌∙◌, ap, subst, arith, inl, inr}
+use Rattle.std.specs.Prelude.{int_le, int_lt}
+use Rattle.std.specs.Option.{option_and_then, option_map}
+use Rattle.std.specs.Ordering.{int_eq}
+use Rattle.std.proofs.lemmas.Bool.Decides.{Decides-int_eq}
+use Rattle.std.proofs.lemmas.Int.{ints}
+use Rattle.std.proofs.Math.IntN.{one, *ℤ-zero, *ℤ-one, *ℤ_comm, +ℤ_idl, +ℤ_idr}
+use Rattle.term_core.specs.declared.term.Oper.{Oper}
+use Rattle.term_core.specs.declared.term.Oper.TheVariants as oper
+use Rattle.term_core.specs.declared.term.Term.{Term}
+use Rattle.term_core.specs.declared.term.Term.TheOpen.{Term-F}
+use Rattle.term_core.specs.declared.term.Term.TheViews.{out-Term, roll-Term, roll-out-Term, out-roll-Term}
+use Rattle.term_core.specs.Options.{all_some}
+use Rattle.term_core.specs.Terms.{int, op}
+use Rattle.term_core.specs.Operations.{Tables, outcome}
+use Rattle.term_core.specs.Values.{Value, a_number, a_truth, a_list, a_record, a_made, as_number, as_truth, same_value, Env}
+use Rattle.term_core.specs.Evaluation.{Calls, value_by, in_env, applied}
+use Rattle.term_laws.proofs.ValueLaws.{value_op, value_int}
+use Rattle.term_laws.proofs.Meanings.{parts_of, mapped_parts}
+use Rattle.linear_facts.specs.Facts.{Fact, at_most, below, equal_to, form_of, denied, compared, comparison_in, comparison, bound_by, bound_in, bound, may_be_number, equation_by, equation_in, equation}
+use Rattle.linear_facts.specs.Forms.{Shape, literal, sum, difference, opposite, multiple, whole, product, applied as shaped_by, shaped, literal_of, number_in, shape_of, within_shape, Part, atom, constant, number, once, form_by, form}
+use Rattle.linear_facts.proofs.Integers.{times-sum}
+use Rattle.linear_facts.proofs.ShapeLaws.{EachPart, over_is, by_shape}
+use Rattle.linear_facts.proofs.SumLaws.{form_is}
+use Rattle.linear_facts.proofs.Summands.{Summands, scaled, summands_by, summands, valued, valued-append, valued-scaled, minus_one}
+
+-- ---- how a term of a shape is written
+
+abbrev pub Spells : Shape Term → Term → Type 0
+Spells (literal n) t = t ≡ int n
+Spells (sum a b) t = t ≡ op oper.Add (a ∷ b ∷ [])
+Spells (difference a b) t = t ≡ op oper.Sub (a ∷ b ∷ [])
+Spells (opposite a) t = t ≡ op oper.Neg (a ∷ [])
+Spells (multiple n a) t = (t ≡ op oper.Mul (int n ∷ a ∷ [])) ⊎ (t ≡ op oper.Mul (a ∷ int n ∷ []))
+Spells whole t = Unit {0}
+
+literal_in : (y : Term-F Term) (n : ℤ) → number_in y ≡ Some n → roll-Term y ≡ int n
+literal_in (Term-F.Int m) n e = ap int (let f : Some m ≡ Some n = e in cc)
+literal_in (Term-F.Truth b) n e = absurd cc
+literal_in (Term-F.Var x) n e = absurd cc
+literal_in (Term-F.Op o ts) n e = absurd cc
+literal_in (Term-F.All x l h b) n e = absurd cc
+literal_in (Term-F.Some x l h b) n e = absurd cc
+
+literal_is : (t : Term) (n : ℤ) → literal_of t ≡ Some n → t ≡ int n
+literal_is t n e = sym (roll-out-Term t) ∙ literal_in (out-Term t) n e
+
+spelled_product : (a b : Term) (m n : Option ℤ) → literal_of a ≡ m → literal_of b ≡ n → Spells (product m n a b) (op oper.Mul (a ∷ b ∷ []))
+spelled_product a b (Some m) n e f = inl (ap (λ a. op oper.Mul (a ∷ b ∷ [])) (literal_is a m e))
+spelled_product a b None (Some n) e f = inr (ap (λ b. op oper.Mul (a ∷ b ∷ [])) (literal_is b n f))
+spelled_product a b None None e f = tt
+
+spelled_op : (o : Oper) (ts : List Term) → Spells (shaped_by literal_of o ts) (op o ts)
+spelled_op oper.Add [] = tt
+spelled_op oper.Add (a ∷ []) = tt
+spelled_op oper.Add (a ∷ b ∷ []) = refl
+spelled_op oper.Add (a ∷ b ∷ c ∷ ts) = tt
+spelled_op oper.Sub [] = tt
+spelled_op oper.Sub (a ∷ []) = tt
+spelled_op oper.Sub (a ∷ b ∷ []) = refl
+spelled_op oper.Sub (a ∷ b ∷ c ∷ ts) = tt
+spelled_op oper.Neg [] = tt
+spelled_op oper.Neg (a ∷ []) = refl
+spelled_op oper.Neg (a ∷ b ∷ ts) = tt
+spelled_op oper.Mul [] = tt
+spelled_op oper.Mul (a ∷ []) = tt
+spelled_op oper.Mul (a ∷ b ∷ []) = spelled_product a b (literal_of a) (literal_of b) refl refl
+spelled_op oper.Mul (a ∷ b ∷ c ∷ ts) = tt
+spelled_op _ ts = tt
+
+spelled_layer : (y : Term-F Term) → Spells (shaped literal_of y) (roll-Term y)
+spelled_layer (Term-F.Int n) = refl
+spelled_layer (Term-F.Truth b) = tt
+spelled_layer (Term-F.Var x) = tt
+spelled_layer (Term-F.Op o ts) = spelled_op o ts
+spelled_layer (Term-F.All x l h b) = tt
+spelled_layer (Term-F.Some x l h b) = tt
+
+pub spelled : (t : Term) → Spells (shape_of t) t
+spelled t = subst (Spells (shape_of t)) (roll-out-Term t) (spelled_layer (out-Term t))
+
+-- ---- the values of operands
+
+two_parts : (x y : Option Value) (g : List Value → Value) (r : Value) → option_and_then (λ vs. Some (g vs)) (all_some (x ∷ y ∷ [])) ≡ Some r
+    → (v : Value) × ((w : Value) × ((x ≡ Some v) × ((y ≡ Some w) × (g (v ∷ w ∷ []) ≡ r))))
+two_parts (Some v) (Some w) g r e = (v, (w, (refl, (refl, (let d : Some (g (v ∷ w ∷ [])) ≡ Some r = e in cc)))))
+two_parts None y g r e = absurd cc
+two_parts (Some v) None g r e = absurd cc
+
+one_part : (x : Option Value) (g : List Value → Value) (r : Value) → option_and_then (λ vs. Some (g vs)) (all_some (x ∷ [])) ≡ Some r
+    → (v : Value) × ((x ≡ Some v) × (g (v ∷ []) ≡ r))
+one_part (Some v) g r e = (v, (refl, (let d : Some (g (v ∷ [])) ≡ Some r = e in cc)))
+one_part None g r e = absurd cc
+
+-- the number that a value counts as
+abbrev pub number_given : Option Value → ℤ
+number_given None = pos 0
+number_given (Some v) = as_number v
+
+some_is : {A : Type 0} (x y : A) → Some x ≡ Some y → x ≡ y
+some_is x y e = cc
+
+-- a sum, and what else stands beside it
+rearranged : (a b c d : ℤ) → (a +ℤ b) +ℤ (c +ℤ d) ≡ (a +ℤ c) +ℤ (b +ℤ d)
+rearranged a b c d = omega (arith, ints)
+
+rearranged_less : (a b c d : ℤ) → (a +ℤ b) -ℤ (c +ℤ d) ≡ (a +ℤ neg_ℤ c) +ℤ (b -ℤ d)
+rearranged_less a b c d = omega (arith, ints)
+
+opposite_sum : (a b : ℤ) → neg_ℤ (a +ℤ b) ≡ neg_ℤ a +ℤ neg_ℤ b
+opposite_sum a b = omega (arith, ints)
+
+times_sum : (f : Term → ℤ) (n : ℤ) (os : Summands) (k : ℤ) → n *ℤ (valued f os +ℤ k) ≡ valued f (scaled n os) +ℤ n *ℤ k
+times_sum f n os k = times-sum n (valued f os) k ∙ ap (λ z. z +ℤ n *ℤ k) (sym (valued-scaled n f os))
+
+alone : (z : ℤ) → z ≡ (pos 1 *ℤ z +ℤ pos 0) +ℤ pos 0
+unfolding one
+alone z = sym (*ℤ_comm (pos 1) z ∙ *ℤ-one z) ∙ (sym (+ℤ_idr (pos 1 *ℤ z)) ∙ sym (+ℤ_idr (pos 1 *ℤ z +ℤ pos 0)))
+
+module _ (m : Tables) (c : Calls) (env : Env) where
+  abbrev pub has : Term → Value → Type 0
+  has t v = value_by m c t env ≡ Some v
+
+  abbrev pub number_at : Term → ℤ
+  number_at t = number_given (value_by m c t env)
+
+  number_is : (t : Term) (v : Value) → has t v → number_at t ≡ as_number v
+  number_is t v e = ap number_given e
+
+  two_values : (o : Oper) (a b : Term) (v : Value) → ((os : List (Option Value)) → applied m c o os ≡ option_and_then (λ vs. Some (outcome m o vs)) (all_some os)) → has (op o (a ∷ b ∷ [])) v
+      → (x : Value) × ((y : Value) × (has a x × (has b y × (outcome m o (x ∷ y ∷ []) ≡ v))))
+  two_values o a b v plain e = two_parts (value_by m c a env) (value_by m c b env) (outcome m o) v
+      (sym (plain (value_by m c a env ∷ value_by m c b env ∷ [])) ∙ (sym (value_op m c o (a ∷ b ∷ []) env) ∙ e))
+
+  one_value : (o : Oper) (a : Term) (v : Value) → ((os : List (Option Value)) → applied m c o os ≡ option_and_then (λ vs. Some (outcome m o vs)) (all_some os)) → has (op o (a ∷ [])) v
+      → (x : Value) × (has a x × (outcome m o (x ∷ []) ≡ v))
+  one_value o a v plain e = one_part (value_by m c a env) (outcome m o) v (sym (plain (value_by m c a env ∷ [])) ∙ (sym (value_op m c o (a ∷ []) env) ∙ e))
+
+  literal_value : (n : ℤ) (v : Value) → has (int n) v → as_number v ≡ n
+  literal_value n v e = ap as_number (some_is v (a_number n) (sym e ∙ value_int m c n env))
+
+  -- ---- a term's number is its form's, at the numbers of atoms
+
+  abbrev pub Means : Term → Type 0
+  Means t = (v : Value) → has t v → as_number v ≡ valued number_at (summands t) +ℤ form t constant
+
+  abbrev Gives : Shape Term → Term → ℤ
+  Gives s t = valued number_at (summands_by t (within_shape summands s)) +ℤ form_by t (within_shape form s) constant
+
+  gives : (s : Shape Term) (t : Term) → Spells s t → EachPart Means s → (v : Value) → has t v → as_number v ≡ Gives s t
+  gives (literal n) t e h v is = literal_value n v (ap (λ t. value_by m c t env) (sym e) ∙ is) ∙ sym (+ℤ_idl n)
+  gives (sum a b) t e h v is =
+      let r = two_values oper.Add a b v (λ os. refl) (ap (λ t. value_by m c t env) (sym e) ∙ is) in
+      sym (ap as_number r.1.1.1.1) ∙ ((λ i. h.0 r.0 r.1.1.0 i +ℤ h.1 r.1.0 r.1.1.1.0 i)
+      ∙ (rearranged (valued number_at (summands a)) (form a constant) (valued number_at (summands b)) (form b constant)
+      ∙ ap (λ z. z +ℤ (form a constant +ℤ form b constant)) (sym (valued-append number_at (summands a) (summands b)))))
+  gives (difference a b) t e h v is =
+      let r = two_values oper.Sub a b v (λ os. refl) (ap (λ t. value_by m c t env) (sym e) ∙ is) in
+      sym (ap as_number r.1.1.1.1) ∙ ((λ i. h.0 r.0 r.1.1.0 i -ℤ h.1 r.1.0 r.1.1.1.0 i)
+      ∙ (rearranged_less (valued number_at (summands a)) (form a constant) (valued number_at (summands b)) (form b constant)
+      ∙ ap (λ z. z +ℤ (form a constant -ℤ form b constant))
+          (ap (λ z. valued number_at (summands a) +ℤ z) (sym (valued-scaled (neg_ℤ (pos 1)) number_at (summands b) ∙ minus_one (valued number_at (summands b))))
+          ∙ sym (valued-append number_at (summands a) (scaled (neg_ℤ (pos 1)) (summands b))))))
+  gives (opposite a) t e h v is =
+      let r = one_value oper.Neg a v (λ os. refl) (ap (λ t. value_by m c t env) (sym e) ∙ is) in
+      sym (ap as_number r.1.1) ∙ (ap neg_ℤ (h r.0 r.1.0) ∙ (opposite_sum (valued number_at (summands a)) (form a constant)
+      ∙ ap (λ z. z +ℤ neg_ℤ (form a constant)) (sym (valued-scaled (neg_ℤ (pos 1)) number_at (summands a) ∙ minus_one (valued number_at (summands a))))))
+  gives (multiple n a) t (inl e) h v is =
+      let r = two_values oper.Mul (int n) a v (λ os. refl) (ap (λ t. value_by m c t env) (sym e) ∙ is) in
+      sym (ap as_number r.1.1.1.1) ∙ ((λ i. literal_value n r.0 r.1.1.0 i *ℤ h r.1.0 r.1.1.1.0 i) ∙ times_sum number_at n (summands a) (form a constant))
+  gives (multiple n a) t (inr e) h v is =
+      let r = two_values oper.Mul a (int n) v (λ os. refl) (ap (λ t. value_by m c t env) (sym e) ∙ is) in
+      sym (ap as_number r.1.1.1.1) ∙ (*ℤ_comm (as_number r.0) (as_number r.1.0) ∙ ((λ i. literal_value n r.1.0 r.1.1.1.0 i *ℤ h r.0 r.1.1.0 i) ∙ times_sum number_at n (summands a) (form a constant)))
+  gives whole t e h v is = sym (number_is t v is) ∙ alone (number_at t)
+
+  pub means : (t : Term) → Means t
+  means = by_shape Means (λ t h v is. gives (shape_of t) t (spelled t) h v is
+      ∙ (λ i. valued number_at (sym (over_is summands_by t) i) +ℤ sym (form_is t constant) i))
