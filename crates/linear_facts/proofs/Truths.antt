@@ -1,11 +1,12 @@
 -- What forms and facts say of values, at any bound on equations.
 use Rattle.std.proofs.Common.{◌≡◌, ◌⊎◌, ℕ, ℤ, pos, negsuc, ◌+ℤ◌, ◌-ℤ◌, ◌*ℤ◌, ◌≤ℤ◌, ◌<ℤ◌, neg_ℤ, List, [], ◌∷◌, ◌++◌, map, Bool, true, false, not, ◌&&◌, if◌then◌else◌, Option, Some, None, refl, sym, ◌∙◌, ap, subst, arith, inl, inr}
 use Rattle.std.specs.Prelude.{int_le, int_lt}
-use Rattle.std.specs.Option.{option_and_then, option_map}
+use Rattle.std.specs.Option.{option_and_then, option_map, option_or}
 use Rattle.std.specs.Ordering.{int_eq}
 use Rattle.std.proofs.lemmas.Bool.Decides.{Decides-int_eq}
 use Rattle.std.proofs.lemmas.Int.{ints}
 use Rattle.std.proofs.Math.IntN.{one, *ℤ-zero, *ℤ-one, *ℤ_comm, +ℤ_idl, +ℤ_idr}
+use Rattle.term_core.specs.declared.sequent.Var.{Var}
 use Rattle.term_core.specs.declared.term.Oper.{Oper}
 use Rattle.term_core.specs.declared.term.Oper.TheVariants as oper
 use Rattle.term_core.specs.declared.term.Term.{Term}
@@ -18,7 +19,8 @@ use Rattle.term_core.specs.Values.{Value, a_number, a_truth, a_list, a_record, a
 use Rattle.term_core.specs.Evaluation.{Calls, value_by, in_env, applied}
 use Rattle.term_laws.proofs.ValueLaws.{value_op, value_int}
 use Rattle.term_laws.proofs.Meanings.{parts_of, mapped_parts}
-use Rattle.linear_facts.specs.Facts.{Fact, at_most, below, equal_to, form_of, denied, compared, comparison_in, comparison, bound_by, bound_in, bound, may_be_number, equation_by, equation_in, equation}
+use Rattle.linear_facts.specs.Facts.{Fact, at_most, below, equal_to, form_of, denied, compared, comparison_in, comparison, bound_by, bound_in, bound, may_be_number, equation_by, equation_in, equation, fact_of}
+use Rattle.linear_facts.specs.Working.{left_of, right_of, extra_of}
 use Rattle.linear_facts.specs.Forms.{Shape, literal, sum, difference, opposite, multiple, whole, product, applied as shaped_by, shaped, literal_of, number_in, shape_of, within_shape, Part, atom, constant, number, once, form_by, form}
 use Rattle.linear_facts.proofs.Integers.{times-sum}
 use Rattle.linear_facts.proofs.ShapeLaws.{EachPart, over_is, by_shape}
@@ -118,6 +120,29 @@ alone : (z : ℤ) → z ≡ (pos 1 *ℤ z +ℤ pos 0) +ℤ pos 0
 unfolding one
 alone z = sym (*ℤ_comm (pos 1) z ∙ *ℤ-one z) ∙ (sym (+ℤ_idr (pos 1 *ℤ z)) ∙ sym (+ℤ_idr (pos 1 *ℤ z +ℤ pos 0)))
 
+not_le : (a b : ℤ) → not (int_le a b) ≡ int_lt b a
+not_le a b = grind (arith, ints)
+
+not_lt : (a b : ℤ) → not (int_lt a b) ≡ int_le b a
+not_lt a b = grind (arith, ints)
+
+-- equal values count as equal numbers
+same_numbers : (x y : Value) → same_value x y ≡ true → as_number x ≡ as_number y
+same_numbers (a_number n) (a_number k) e = (Decides-int_eq n k).0 e
+same_numbers (a_truth b) (a_truth d) e = refl
+same_numbers (a_list l xs) (a_list k ys) e = refl
+same_numbers (a_record xs) (a_record ys) e = refl
+same_numbers (a_made g xs) (a_made h ys) e = refl
+same_numbers (a_number n) (a_truth b) e = absurd cc
+same_numbers (a_number n) (a_list l xs) e = absurd cc
+same_numbers (a_number n) (a_record xs) e = absurd cc
+same_numbers (a_number n) (a_made g xs) e = absurd cc
+same_numbers (a_truth b) (a_number n) e = absurd cc
+same_numbers (a_list l xs) (a_number n) e = absurd cc
+same_numbers (a_record xs) (a_number n) e = absurd cc
+same_numbers (a_made g xs) (a_number n) e = absurd cc
+same_numbers _ _ e = refl
+
 module _ (m : Tables) (c : Calls) (env : Env) where
   abbrev pub has : Term → Value → Type 0
   has t v = value_by m c t env ≡ Some v
@@ -177,3 +202,137 @@ module _ (m : Tables) (c : Calls) (env : Env) where
   pub means : (t : Term) → Means t
   means = by_shape Means (λ t h v is. gives (shape_of t) t (spelled t) h v is
       ∙ (λ i. valued number_at (sym (over_is summands_by t) i) +ℤ sym (form_is t constant) i))
+
+  -- ---- facts
+
+  -- what a fact says of the numbers
+  abbrev pub says : Fact → Bool
+  says (at_most a b) = int_le (number_at a) (number_at b)
+  says (below a b) = int_lt (number_at a) (number_at b)
+  says (equal_to a b) = int_eq (number_at a) (number_at b)
+
+  -- both sides have values
+  abbrev pub Sides : Fact → Type 0
+  Sides fact = ((x : Value) × has (left_of fact) x) × ((y : Value) × has (right_of fact) y)
+
+  -- a term whose value is that of the fact
+  abbrev pub Tells : Value → Fact → Type 0
+  Tells v fact = (v ≡ a_truth (says fact)) × Sides fact
+
+  tells_le : (a b : Term) (v : Value) → has (op oper.Le (a ∷ b ∷ [])) v → Tells v (at_most a b)
+  tells_le a b v e =
+      let r = two_values oper.Le a b v (λ os. refl) e in
+      (sym r.1.1.1.1 ∙ (λ i. a_truth (int_le (sym (number_is a r.0 r.1.1.0) i) (sym (number_is b r.1.0 r.1.1.1.0) i))), ((r.0, r.1.1.0), (r.1.0, r.1.1.1.0)))
+
+  tells_lt : (a b : Term) (v : Value) → has (op oper.Lt (a ∷ b ∷ [])) v → Tells v (below a b)
+  tells_lt a b v e =
+      let r = two_values oper.Lt a b v (λ os. refl) e in
+      (sym r.1.1.1.1 ∙ (λ i. a_truth (int_lt (sym (number_is a r.0 r.1.1.0) i) (sym (number_is b r.1.0 r.1.1.1.0) i))), ((r.0, r.1.1.0), (r.1.0, r.1.1.1.0)))
+
+  tells_ge : (b a : Term) (v : Value) → has (op oper.Ge (b ∷ a ∷ [])) v → Tells v (at_most a b)
+  tells_ge b a v e =
+      let r = two_values oper.Ge b a v (λ os. refl) e in
+      (sym r.1.1.1.1 ∙ (λ i. a_truth (int_le (sym (number_is a r.1.0 r.1.1.1.0) i) (sym (number_is b r.0 r.1.1.0) i))), ((r.1.0, r.1.1.1.0), (r.0, r.1.1.0)))
+
+  tells_gt : (b a : Term) (v : Value) → has (op oper.Gt (b ∷ a ∷ [])) v → Tells v (below a b)
+  tells_gt b a v e =
+      let r = two_values oper.Gt b a v (λ os. refl) e in
+      (sym r.1.1.1.1 ∙ (λ i. a_truth (int_lt (sym (number_is a r.1.0 r.1.1.1.0) i) (sym (number_is b r.0 r.1.1.0) i))), ((r.1.0, r.1.1.1.0), (r.0, r.1.1.0)))
+
+  compared_tells : (o : Oper) (ts : List Term) (fact : Fact) → compared o ts ≡ Some fact → (v : Value) → has (op o ts) v → Tells v fact
+  compared_tells oper.Le (a ∷ b ∷ []) fact e v h = subst (Tells v) (some_is (at_most a b) fact e) (tells_le a b v h)
+  compared_tells oper.Ge (b ∷ a ∷ []) fact e v h = subst (Tells v) (some_is (at_most a b) fact e) (tells_ge b a v h)
+  compared_tells oper.Lt (a ∷ b ∷ []) fact e v h = subst (Tells v) (some_is (below a b) fact e) (tells_lt a b v h)
+  compared_tells oper.Gt (b ∷ a ∷ []) fact e v h = subst (Tells v) (some_is (below a b) fact e) (tells_gt b a v h)
+  compared_tells oper.Le [] fact e v h = absurd cc
+  compared_tells oper.Le (a ∷ []) fact e v h = absurd cc
+  compared_tells oper.Le (a ∷ b ∷ d ∷ ts) fact e v h = absurd cc
+  compared_tells oper.Ge [] fact e v h = absurd cc
+  compared_tells oper.Ge (a ∷ []) fact e v h = absurd cc
+  compared_tells oper.Ge (a ∷ b ∷ d ∷ ts) fact e v h = absurd cc
+  compared_tells oper.Lt [] fact e v h = absurd cc
+  compared_tells oper.Lt (a ∷ []) fact e v h = absurd cc
+  compared_tells oper.Lt (a ∷ b ∷ d ∷ ts) fact e v h = absurd cc
+  compared_tells oper.Gt [] fact e v h = absurd cc
+  compared_tells oper.Gt (a ∷ []) fact e v h = absurd cc
+  compared_tells oper.Gt (a ∷ b ∷ d ∷ ts) fact e v h = absurd cc
+  compared_tells _ ts fact e v h = absurd cc
+
+  comparison_layer : (y : Term-F Term) (fact : Fact) → comparison_in y ≡ Some fact → (v : Value) → has (roll-Term y) v → Tells v fact
+  comparison_layer (Term-F.Op o ts) fact e v h = compared_tells o ts fact e v h
+  comparison_layer (Term-F.Int n) fact e v h = absurd cc
+  comparison_layer (Term-F.Truth b) fact e v h = absurd cc
+  comparison_layer (Term-F.Var x) fact e v h = absurd cc
+  comparison_layer (Term-F.All x l k b) fact e v h = absurd cc
+  comparison_layer (Term-F.Some x l k b) fact e v h = absurd cc
+
+  comparison_tells : (t : Term) (fact : Fact) → comparison t ≡ Some fact → (v : Value) → has t v → Tells v fact
+  comparison_tells t fact e v h = comparison_layer (out-Term t) fact e v (ap (λ t. value_by m c t env) (roll-out-Term t) ∙ h)
+
+  denied_says : (g fact : Fact) → denied g ≡ Some fact → Sides g → (not (says g) ≡ says fact) × Sides fact
+  denied_says (at_most a b) fact e s = subst (λ f. (not (int_le (number_at a) (number_at b)) ≡ says f) × Sides f) (some_is (below b a) fact e) (not_le (number_at a) (number_at b), (s.1, s.0))
+  denied_says (below a b) fact e s = subst (λ f. (not (int_lt (number_at a) (number_at b)) ≡ says f) × Sides f) (some_is (at_most b a) fact e) (not_lt (number_at a) (number_at b), (s.1, s.0))
+  denied_says (equal_to a b) fact e s = absurd cc
+
+  not_tells : (t : Term) (fact : Fact) → option_and_then denied (comparison t) ≡ Some fact → (v : Value) → has (op oper.Not (t ∷ [])) v → Tells v fact
+  not_tells t fact e v h =
+      let p = parts_of (comparison t) denied fact e in
+      let r = one_value oper.Not t v (λ os. refl) h in
+      let g = comparison_tells t p.0 p.1.0 r.0 r.1.0 in
+      let d = denied_says p.0 fact p.1.1 g.1 in
+      (sym r.1.1 ∙ (ap (λ x. a_truth (not (as_truth x))) g.0 ∙ ap a_truth d.0), d.1)
+
+  bound_op : (o : Oper) (ts : List Term) (fact : Fact) → bound_by o ts ≡ Some fact → (v : Value) → has (op o ts) v → Tells v fact
+  bound_op oper.Not (t ∷ []) fact e v h = not_tells t fact e v h
+  bound_op oper.Not [] fact e v h = absurd cc
+  bound_op oper.Not (t ∷ u ∷ ts) fact e v h = absurd cc
+  bound_op o ts fact e v h = compared_tells o ts fact e v h
+
+  bound_layer : (y : Term-F Term) (fact : Fact) → bound_in y ≡ Some fact → (v : Value) → has (roll-Term y) v → Tells v fact
+  bound_layer (Term-F.Op o ts) fact e v h = bound_op o ts fact e v h
+  bound_layer (Term-F.Int n) fact e v h = absurd cc
+  bound_layer (Term-F.Truth b) fact e v h = absurd cc
+  bound_layer (Term-F.Var x) fact e v h = absurd cc
+  bound_layer (Term-F.All x l k b) fact e v h = absurd cc
+  bound_layer (Term-F.Some x l k b) fact e v h = absurd cc
+
+  pub bound_tells : (t : Term) (fact : Fact) → bound t ≡ Some fact → (v : Value) → has t v → Tells v fact
+  bound_tells t fact e v h = bound_layer (out-Term t) fact e v (ap (λ t. value_by m c t env) (roll-out-Term t) ∙ h)
+
+  -- ---- equations
+
+  equal_tells : (a b : Term) → has (op oper.Eq (a ∷ b ∷ [])) (a_truth true) → (says (equal_to a b) ≡ true) × Sides (equal_to a b)
+  equal_tells a b h =
+      let r = two_values oper.Eq a b (a_truth true) (λ os. refl) h in
+      let same = same_numbers r.0 r.1.0 (ap as_truth r.1.1.1.1) in
+      ((Decides-int_eq (number_at a) (number_at b)).1 (number_is a r.0 r.1.1.0 ∙ (same ∙ sym (number_is b r.1.0 r.1.1.1.0))), ((r.0, r.1.1.0), (r.1.0, r.1.1.1.0)))
+
+  equation_op : (vars : List Var) (o : Oper) (ts : List Term) (fact : Fact) → equation_by vars o ts ≡ Some fact → has (op o ts) (a_truth true) → (says fact ≡ true) × Sides fact
+  equation_op vars oper.Eq (a ∷ b ∷ []) fact e h = by_test (may_be_number vars a && may_be_number vars b) e
+    where
+      by_test : (t : Bool) → (if t then Some (equal_to a b) else None) ≡ Some fact → (says fact ≡ true) × Sides fact
+      by_test true e = subst (λ f. (says f ≡ true) × Sides f) (some_is (equal_to a b) fact e) (equal_tells a b h)
+      by_test false e = absurd cc
+  equation_op vars oper.Eq [] fact e h = absurd cc
+  equation_op vars oper.Eq (a ∷ []) fact e h = absurd cc
+  equation_op vars oper.Eq (a ∷ b ∷ d ∷ ts) fact e h = absurd cc
+  equation_op vars _ ts fact e h = absurd cc
+
+  equation_layer : (vars : List Var) (y : Term-F Term) (fact : Fact) → equation_in vars y ≡ Some fact → has (roll-Term y) (a_truth true) → (says fact ≡ true) × Sides fact
+  equation_layer vars (Term-F.Op o ts) fact e h = equation_op vars o ts fact e h
+  equation_layer vars (Term-F.Int n) fact e h = absurd cc
+  equation_layer vars (Term-F.Truth b) fact e h = absurd cc
+  equation_layer vars (Term-F.Var x) fact e h = absurd cc
+  equation_layer vars (Term-F.All x l k b) fact e h = absurd cc
+  equation_layer vars (Term-F.Some x l k b) fact e h = absurd cc
+
+  -- a hypothesis that is true
+  pub fact_tells : (vars : List Var) (t : Term) (fact : Fact) → fact_of vars t ≡ Some fact → has t (a_truth true) → (says fact ≡ true) × Sides fact
+  fact_tells vars t fact e h = by_bound (bound t) refl
+    where
+      by_bound : (o : Option Fact) → bound t ≡ o → (says fact ≡ true) × Sides fact
+      by_bound (Some g) f =
+          let is = some_is g fact (sym (ap (λ o. option_or o (equation vars t)) f) ∙ e) in
+          let r = bound_tells t fact (f ∙ ap Some is) (a_truth true) h in
+          (sym (ap as_truth r.0), r.1)
+      by_bound None f = equation_layer vars (out-Term t) fact (sym (ap (λ o. option_or o (equation vars t)) f) ∙ e) (ap (λ t. value_by m c t env) (roll-out-Term t) ∙ h)
