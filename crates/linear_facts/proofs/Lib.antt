@@ -3,6 +3,7 @@ pub mod ClosingLaws
 pub mod Integers
 pub mod LaneLaws
 pub mod ShapeLaws
+pub mod Soundness
 pub mod SumLaws
 pub mod Summands
 pub mod Truths

@@ -1,11 +1,11 @@
 -- What forms and facts say of values, at any bound on equations.
-use Rattle.std.proofs.Common.{◌≡◌, ◌⊎◌, ℕ, ℤ, pos, negsuc, ◌+ℤ◌, ◌-ℤ◌, ◌*ℤ◌, ◌≤ℤ◌, ◌<ℤ◌, neg_ℤ, List, [], ◌∷◌, ◌++◌, map, Bool, true, false, not, ◌&&◌, if◌then◌else◌, Option, Some, None, refl, sym, ◌∙◌, ap, subst, arith, inl, inr}
+use Rattle.std.proofs.Common.{◌≡◌, ◌⊎◌, ℕ, ℤ, pos, negsuc, ◌+ℤ◌, ◌-ℤ◌, ◌*ℤ◌, ◌≤ℤ◌, ◌<ℤ◌, neg_ℤ, List, [], ◌∷◌, ◌++◌, map, Bool, true, false, not, ◌&&◌, if◌then◌else◌, Option, Some, None, refl, sym, ◌∙◌, ap, subst, arith, inl, inr, zero, suc, ◌*◌, ◌||◌}
 use Rattle.std.specs.Prelude.{int_le, int_lt}
 use Rattle.std.specs.Option.{option_and_then, option_map, option_or}
 use Rattle.std.specs.Ordering.{int_eq}
 use Rattle.std.proofs.lemmas.Bool.Decides.{Decides-int_eq}
 use Rattle.std.proofs.lemmas.Int.{ints}
-use Rattle.std.proofs.Math.IntN.{one, *ℤ-zero, *ℤ-one, *ℤ_comm, +ℤ_idl, +ℤ_idr}
+use Rattle.std.proofs.Math.IntN.{one, *ℤ-zero, *ℤ-one, *ℤ_comm, +ℤ_idl, +ℤ_idr, +ℤ_assoc, pos-*ℤ-pos}
 use Rattle.term_core.specs.declared.sequent.Var.{Var}
 use Rattle.term_core.specs.declared.term.Oper.{Oper}
 use Rattle.term_core.specs.declared.term.Oper.TheVariants as oper
@@ -19,13 +19,13 @@ use Rattle.term_core.specs.Values.{Value, a_number, a_truth, a_list, a_record, a
 use Rattle.term_core.specs.Evaluation.{Calls, value_by, in_env, applied}
 use Rattle.term_laws.proofs.ValueLaws.{value_op, value_int}
 use Rattle.term_laws.proofs.Meanings.{parts_of, mapped_parts}
-use Rattle.linear_facts.specs.Facts.{Fact, at_most, below, equal_to, form_of, denied, compared, comparison_in, comparison, bound_by, bound_in, bound, may_be_number, equation_by, equation_in, equation, fact_of}
+use Rattle.linear_facts.specs.Facts.{Fact, at_most, below, equal_to, form_of, is_equation, denied, compared, comparison_in, comparison, bound_by, bound_in, bound, may_be_number, equation_by, equation_in, equation, fact_of}
 use Rattle.linear_facts.specs.Working.{left_of, right_of, extra_of}
 use Rattle.linear_facts.specs.Forms.{Shape, literal, sum, difference, opposite, multiple, whole, product, applied as shaped_by, shaped, literal_of, number_in, shape_of, within_shape, Part, atom, constant, number, once, form_by, form}
-use Rattle.linear_facts.proofs.Integers.{times-sum}
+use Rattle.linear_facts.proofs.Integers.{times-sum, times-opposite}
 use Rattle.linear_facts.proofs.ShapeLaws.{EachPart, over_is, by_shape}
-use Rattle.linear_facts.proofs.SumLaws.{form_is}
-use Rattle.linear_facts.proofs.Summands.{Summands, scaled, summands_by, summands, valued, valued-append, valued-scaled, minus_one}
+use Rattle.linear_facts.proofs.SumLaws.{form_is, fact_form}
+use Rattle.linear_facts.proofs.Summands.{Summands, scaled, summands_by, summands, summands_in, valued, valued-append, valued-scaled, minus_one}
 
 -- ---- how a term of a shape is written
 
@@ -125,6 +125,31 @@ not_le a b = grind (arith, ints)
 
 not_lt : (a b : ℤ) → not (int_lt a b) ≡ int_le b a
 not_lt a b = grind (arith, ints)
+
+le_distance : (a b : ℤ) → int_le a b ≡ true → (a -ℤ b +ℤ pos 0) ≤ℤ pos 0
+le_distance a b e = grind (arith, ints)
+
+lt_distance : (a b : ℤ) → int_lt a b ≡ true → (a -ℤ b +ℤ pos 1) ≤ℤ pos 0
+lt_distance a b e = grind (arith, ints)
+
+equal_distance : (a b : ℤ) → a ≡ b → a -ℤ b +ℤ pos 0 ≡ pos 0
+equal_distance a b e = omega (arith, ints)
+
+none_above : pos 0 ≤ℤ pos 0
+none_above = omega (arith, ints)
+
+below_is : (d : ℤ) → d ≤ℤ pos 0 → (k : ℕ) × (d ≡ neg_ℤ (pos k))
+below_is (pos zero) h = (0, refl)
+below_is (pos (suc n)) h = absurd (let k : pos (suc n) ≤ℤ pos 0 = h in omega (arith, ints))
+below_is (negsuc n) h = (suc n, refl)
+
+opposite_below : (n : ℕ) → neg_ℤ (pos n) ≤ℤ pos 0
+opposite_below n = omega (arith, ints)
+
+product_below : (n d : ℤ) → d ≤ℤ pos 0 → int_le (pos 0) n ≡ true → (n *ℤ d) ≤ℤ pos 0
+product_below (pos n) d h e = let k = below_is d h in
+    subst (λ z. z ≤ℤ pos 0) (sym (ap (λ d. pos n *ℤ d) k.1 ∙ (times-opposite (pos n) (pos k.0) ∙ ap neg_ℤ (pos-*ℤ-pos n k.0)))) (opposite_below (n * k.0))
+product_below (negsuc n) d h e = absurd (let f : false ≡ true = e in cc)
 
 -- equal values count as equal numbers
 same_numbers : (x y : Value) → same_value x y ≡ true → as_number x ≡ as_number y
@@ -269,7 +294,7 @@ module _ (m : Tables) (c : Calls) (env : Env) where
   comparison_tells : (t : Term) (fact : Fact) → comparison t ≡ Some fact → (v : Value) → has t v → Tells v fact
   comparison_tells t fact e v h = comparison_layer (out-Term t) fact e v (ap (λ t. value_by m c t env) (roll-out-Term t) ∙ h)
 
-  denied_says : (g fact : Fact) → denied g ≡ Some fact → Sides g → (not (says g) ≡ says fact) × Sides fact
+  pub denied_says : (g fact : Fact) → denied g ≡ Some fact → Sides g → (not (says g) ≡ says fact) × Sides fact
   denied_says (at_most a b) fact e s = subst (λ f. (not (int_le (number_at a) (number_at b)) ≡ says f) × Sides f) (some_is (below b a) fact e) (not_le (number_at a) (number_at b), (s.1, s.0))
   denied_says (below a b) fact e s = subst (λ f. (not (int_lt (number_at a) (number_at b)) ≡ says f) × Sides f) (some_is (at_most b a) fact e) (not_lt (number_at a) (number_at b), (s.1, s.0))
   denied_says (equal_to a b) fact e s = absurd cc
@@ -336,3 +361,25 @@ module _ (m : Tables) (c : Calls) (env : Env) where
           let r = bound_tells t fact (f ∙ ap Some is) (a_truth true) h in
           (sym (ap as_truth r.0), r.1)
       by_bound None f = equation_layer vars (out-Term t) fact (sym (ap (λ o. option_or o (equation vars t)) f) ∙ e) (ap (λ t. value_by m c t env) (roll-out-Term t) ∙ h)
+
+  -- ---- the number of a fact's form
+
+  abbrev pub distance : Fact → ℤ
+  distance fact = number_at (left_of fact) -ℤ number_at (right_of fact) +ℤ extra_of fact
+
+  pub distance_is : (fact : Fact) → Sides fact → distance fact ≡ valued number_at (summands_in fact) +ℤ form_of fact constant
+  distance_is fact s =
+      let a = valued number_at (summands (left_of fact)) in
+      let b = valued number_at (summands (right_of fact)) in
+      let left = number_is (left_of fact) s.0.0 s.0.1 ∙ means (left_of fact) s.0.0 s.0.1 in
+      let right = number_is (right_of fact) s.1.0 s.1.1 ∙ means (right_of fact) s.1.0 s.1.1 in
+      (λ i. left i -ℤ right i +ℤ extra_of fact) ∙ (ap (λ z. z +ℤ extra_of fact) (rearranged_less a (form (left_of fact) constant) b (form (right_of fact) constant))
+      ∙ (+ℤ_assoc (a +ℤ neg_ℤ b) (form (left_of fact) constant -ℤ form (right_of fact) constant) (extra_of fact)
+      ∙ (λ i. (ap (λ z. a +ℤ z) (sym (valued-scaled (neg_ℤ (pos 1)) number_at (summands (right_of fact)) ∙ minus_one b))
+          ∙ sym (valued-append number_at (summands (left_of fact)) (scaled (neg_ℤ (pos 1)) (summands (right_of fact))))) i +ℤ fact_form fact constant i)))
+
+  -- a fact that is true, with a coefficient that may weigh it, adds nothing above 0
+  pub adds_nothing : (n : ℤ) (fact : Fact) → says fact ≡ true → (is_equation fact || int_le (pos 0) n) ≡ true → (n *ℤ distance fact) ≤ℤ pos 0
+  adds_nothing n (at_most a b) e h = product_below n _ (le_distance (number_at a) (number_at b) e) h
+  adds_nothing n (below a b) e h = product_below n _ (lt_distance (number_at a) (number_at b) e) h
+  adds_nothing n (equal_to a b) e h = subst (λ z. z ≤ℤ pos 0) (sym (ap (λ d. n *ℤ d) (equal_distance (number_at a) (number_at b) ((Decides-int_eq (number_at a) (number_at b)).0 e)) ∙ *ℤ-zero n)) none_above
