@@ -8,6 +8,8 @@ mod attributes;
 #[cfg(test)]
 mod bases;
 #[cfg(test)]
+mod certificates;
+#[cfg(test)]
 mod edges;
 #[cfg(test)]
 mod scripts;
