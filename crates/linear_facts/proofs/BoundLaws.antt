@@ -16,14 +16,10 @@ use Rattle.linear_facts.specs.Closing.{most_number, IsSmall, IsBounded}
 use Rattle.linear_facts.specs.Facts.{Fact, at_most, below, equal_to, form_of, apart_in}
 use Rattle.linear_facts.specs.Forms.{Shape, literal, sum, difference, opposite, multiple, whole, literal_of, shaped, shape_of, within_shape, over_shapes, Part, atom, constant, Form, number, once, form_by, form, parts_by, taken_apart, same_term}
 use Rattle.linear_facts.specs.Working.{left_of, right_of, extra_of, same_part, small, small_of, number_by, number_at, fact_number_at, small_size, size_of_two, size_by, size_at, fact_size, fits_at, atoms_by, atoms_of, atoms_in}
-use Rattle.linear_facts.proofs.ShapeLaws.{EachPart, over_is, over_at, by_shape}
+use Rattle.linear_facts.proofs.ShapeLaws.{Every, EachPart, over_is, over_at, by_shape}
 use Rattle.linear_facts.proofs.SumLaws.{form_is, once_is, fact_form}
 
 -- ---- what holds of each
-
-abbrev pub Every : {A : Type 0} → (A → Type 0) → List A → Type 0
-Every P [] = Unit {0}
-Every P (x ∷ xs) = P x × Every P xs
 
 pub every_append : {A : Type 0} (P : A → Type 0) (xs ys : List A) → Every P xs → Every P ys → Every P (xs ++ ys)
 every_append P [] ys h k = k

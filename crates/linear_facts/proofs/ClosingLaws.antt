@@ -19,7 +19,8 @@ use Rattle.linear_facts.specs.Facts.{Fact, at_most, below, equal_to, form_of, ap
 use Rattle.linear_facts.specs.Forms.{Part, atom, constant, Form, number, form, taken_apart}
 use Rattle.linear_facts.specs.Working.{left_of, right_of, extra_of, same_part, small, small_of, number_at, fact_number_at, size_of_two, size_at, fact_size, fits_at, fit_at, is_right, is_atom_right, is_contradiction, atoms_of, atoms_in, all_atoms, keeps_rules, is_closed}
 use Rattle.linear_facts.proofs.SumLaws.{fact_form, same_part_is}
-use Rattle.linear_facts.proofs.BoundLaws.{Every, every_append, every_left, every_right, every_all, all_every, SmallAt, Within, WithinFact, small_two, both_found, found, finds, size_two, size_bounds, abs_product, abs_sum, abs_difference, at_most_literal, below_most, none_of, absent, no_size}
+use Rattle.linear_facts.proofs.ShapeLaws.{Every}
+use Rattle.linear_facts.proofs.BoundLaws.{every_append, every_left, every_right, every_all, all_every, SmallAt, Within, WithinFact, small_two, both_found, found, finds, size_two, size_bounds, abs_product, abs_sum, abs_difference, at_most_literal, below_most, none_of, absent, no_size}
 
 -- ---- a fact within its bounds at a part
 

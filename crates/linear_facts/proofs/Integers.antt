@@ -1,7 +1,7 @@
 -- Products of whole numbers.
 use Rattle.std.proofs.Common.{◌≡◌, ℕ, zero, suc, ℤ, pos, negsuc, ◌+ℤ◌, ◌-ℤ◌, ◌*ℤ◌, neg_ℤ, refl, sym, ◌∙◌, ap, arith}
 use Rattle.std.proofs.lemmas.Int.{ints}
-use Rattle.std.proofs.Math.IntN.{suc_ℤ, pred_ℤ, suc_ℤ-+ℤ, pred_ℤ-+ℤ, suc_ℤ-*ℤ, pred_ℤ-*ℤ, +ℤ_idl, zero-*ℤ, *ℤ_comm}
+use Rattle.std.proofs.Math.IntN.{one, *ℤ-one, suc_ℤ, pred_ℤ, suc_ℤ-+ℤ, pred_ℤ-+ℤ, suc_ℤ-*ℤ, pred_ℤ-*ℤ, +ℤ_idl, zero-*ℤ, *ℤ_comm}
 
 -- ---- induction, from 0 up and down
 
@@ -50,6 +50,10 @@ times-opposite k m = *ℤ_comm k (neg_ℤ m) ∙ (opposite-times m k ∙ ap neg_
 
 pub times-difference : (k m n : ℤ) → k *ℤ (m -ℤ n) ≡ k *ℤ m -ℤ k *ℤ n
 times-difference k m n = times-sum k m (neg_ℤ n) ∙ ap (λ x. k *ℤ m +ℤ x) (times-opposite k n)
+
+pub minus_one : (z : ℤ) → neg_ℤ (pos 1) *ℤ z ≡ neg_ℤ z
+unfolding one
+minus_one z = *ℤ_comm (neg_ℤ (pos 1)) z ∙ (times-opposite z (pos 1) ∙ ap neg_ℤ (*ℤ-one z))
 
 -- ---- a product
 

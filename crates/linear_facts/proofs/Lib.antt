@@ -2,6 +2,7 @@ pub mod BoundLaws
 pub mod ClosingLaws
 pub mod Integers
 pub mod LaneLaws
+pub mod NumberLaws
 pub mod ShapeLaws
 pub mod Soundness
 pub mod SumLaws

@@ -125,3 +125,8 @@ module _ (P : Term → Type 0) where
       at_op = λ o ts h. at_roll (Term-F.Op o ts) (part_applied o ts h);
       at_quantifier = at_over;
     }
+
+-- what holds of each
+abbrev pub Every : {A : Type 0} → (A → Type 0) → List A → Type 0
+Every P [] = Unit {0}
+Every P (x ∷ xs) = P x × Every P xs

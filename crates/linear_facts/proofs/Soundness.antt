@@ -16,7 +16,8 @@ use Rattle.term_laws.proofs.ValueLaws.{value_grows}
 use Rattle.linear_facts.specs.Closing.{may_weigh, each_may_weigh, weighed, weights_from, weights, total, Closes}
 use Rattle.linear_facts.specs.Facts.{Fact, form_of, is_equation, denied, bound, fact_of, against, hypothesis_at, fact_at}
 use Rattle.linear_facts.specs.Forms.{constant}
-use Rattle.linear_facts.proofs.BoundLaws.{Every, every_append}
+use Rattle.linear_facts.proofs.BoundLaws.{every_append}
+use Rattle.linear_facts.proofs.ShapeLaws.{Every}
 use Rattle.linear_facts.proofs.Integers.{times-sum}
 use Rattle.linear_facts.proofs.Summands.{scaled, summands_in, summands_of, valued, valued-append, valued-scaled, number_total, all_vanish}
 use Rattle.linear_facts.proofs.Truths as truths

@@ -1,11 +1,12 @@
 -- What lanes hold in the end: the weighted sums.
-use Rattle.std.proofs.Common.{◌≡◌, ℕ, ℤ, pos, ◌+ℤ◌, ◌-ℤ◌, ◌*ℤ◌, neg_ℤ, List, [], ◌∷◌, map, Bool, true, false, ◌&&◌, ◌||◌, if◌then◌else◌, eqb, eq-eqb, refl, sym, ◌∙◌, ap, arith, length, get_or}
+use Rattle.std.proofs.Common.{◌≡◌, ℕ, ℤ, pos, negsuc, ◌+ℤ◌, ◌-ℤ◌, ◌*ℤ◌, neg_ℤ, List, [], ◌∷◌, map, Bool, true, false, ◌&&◌, ◌||◌, if◌then◌else◌, Option, Some, None, eqb, eq-eqb, refl, sym, ◌∙◌, ap, arith, length, get_or}
 use Rattle.std.specs.Prelude.{is_some}
+use Rattle.std.specs.Option.{option_map, option_and_then}
 use Rattle.std.specs.Int.{int_wrap}
 use Rattle.std.specs.List.{All, list_all, refill}
 use Rattle.std.proofs.lemmas.Grind.{common_steps}
 use Rattle.std.proofs.lemmas.List.{length-map}
-use Rattle.std.proofs.lemmas.List.Elements.{All-head, All-tail}
+use Rattle.std.proofs.lemmas.List.Elements.{All-head, All-tail, All-cons, All-nil}
 use Rattle.std.proofs.lemmas.List.Folds.{list_all-map}
 use Rattle.std.specs.Ordering.{int_eq}
 use Rattle.std.proofs.lemmas.Int.{int_wrap-add_left}
@@ -20,8 +21,11 @@ use Rattle.linear_facts.specs.Closing.{total}
 use Rattle.linear_facts.specs.Facts.{Fact, at_most, below, equal_to, form_of}
 use Rattle.linear_facts.specs.Forms.{Shape, literal, sum, difference, opposite, multiple, whole, shape_of, within_shape, over_shapes, Part, atom, constant, Form, number, once, form_by, form, same_term}
 use Rattle.linear_facts.specs.Views.{part_behind}
-use Rattle.linear_facts.specs.Working.{left_of, right_of, extra_of, same_part, part_mark, is_lane_of, seen, seen_by, seen_in, with_more, with_fact, with_weights, fact_size, fact_number_at, fits_at, fits_each, fit_at, is_right, IsFresh}
-use Rattle.linear_facts.proofs.ShapeLaws.{EachPart, over_is, by_shape}
+use Rattle.linear_facts.specs.Working.{left_of, right_of, extra_of, same_part, part_mark, is_lane_of, seen, seen_by, seen_in, with_more, with_fact, with_weights, small, small_of, number_by, number_at, fact_size, fact_number_at, small_lists, part_numbers, scaled_numbers, lane_numbers_by, lane_numbers, differences_fit, each_fits, fits_at, fits_each, fits_parts, fit_at, is_right, IsFresh}
+use Rattle.term_core.specs.Options.{all_some}
+use Rattle.linear_facts.proofs.Integers.{minus_one}
+use Rattle.linear_facts.proofs.NumberLaws.{all_there, pairs_of_all, scaled_all, all_fit}
+use Rattle.linear_facts.proofs.ShapeLaws.{Every, EachPart, over_is, by_shape}
 
 -- ---- a lane whose mark is right sees its part alone
 
@@ -108,6 +112,59 @@ pub fresh_total : (ws : List (ℤ × Fact)) (lane : Lane) → IsFresh lane → (
 unfolding int_wrap
 fresh_total ws lane fresh = all_facts ws lane (pos 0) fresh.mark fresh.sum ∙ ap (int_wrap w128) (+ℤ_idl (total ws (part_of lane)))
 
+-- ---- the exact numbers of lanes
+
+-- parts that are given a number
+given_parts : (lane : Lane) (lanes : List Lane) (q : Part) (o : Option ℤ) (g : ℤ → Part → ℤ) → ((lane : Lane) (n : ℤ) → IsMarked lane → seen lane q n ≡ g n (part_of lane)) → Every IsMarked (lane ∷ lanes)
+    → part_numbers (lane ∷ lanes) q o ≡ all_some (map (λ lane. option_map (λ n. g n (part_of lane)) o) (lane ∷ lanes))
+given_parts lane lanes q None g e m = refl
+given_parts lane lanes q (Some n) g e m = ap Some (all_seen (lane ∷ lanes) m) ∙ sym (all_there (λ lane. g n (part_of lane)) (lane ∷ lanes))
+  where
+    all_seen : (lanes : List Lane) → Every IsMarked lanes → map (λ lane. seen lane q n) lanes ≡ map (λ lane. g n (part_of lane)) lanes
+    all_seen [] m = refl
+    all_seen (lane ∷ lanes) m = λ i. e lane n m.0 i ∷ all_seen lanes m.1 i
+
+minus : (y : ℤ) → negsuc 0 *ℤ y ≡ pos 0 -ℤ y
+minus y = minus_one y ∙ sym (+ℤ_idl (neg_ℤ y))
+
+scaled_lanes : (lane : Lane) (lanes : List Lane) (o : Option ℤ) (F : Lane → Option ℤ) → scaled_numbers o (all_some (map F (lane ∷ lanes))) ≡ all_some (map (λ lane. small_of ◌*ℤ◌ o (F lane)) (lane ∷ lanes))
+scaled_lanes lane lanes None F = refl
+scaled_lanes lane lanes (Some n) F = scaled_all n F (lane ∷ lanes)
+
+lane_numbers_are : (lane : Lane) (lanes : List Lane) → Every IsMarked (lane ∷ lanes) → (t : Term) → lane_numbers (lane ∷ lanes) t ≡ all_some (map (λ lane. number_at (part_of lane) t) (lane ∷ lanes))
+lane_numbers_are lane lanes m = by_shape (λ t. lane_numbers (lane ∷ lanes) t ≡ all_some (map (λ lane. number_at (part_of lane) t) (lane ∷ lanes))) (λ t h.
+    over_is (lane_numbers_by (lane ∷ lanes)) t ∙ (at t (shape_of t) h ∙ sym (λ i. all_some (map (λ lane. over_is (number_by (part_of lane)) t i) (lane ∷ lanes)))))
+  where
+    at : (t : Term) (s : Shape Term) → EachPart (λ t. lane_numbers (lane ∷ lanes) t ≡ all_some (map (λ lane. number_at (part_of lane) t) (lane ∷ lanes))) s
+        → lane_numbers_by (lane ∷ lanes) t (within_shape (lane_numbers (lane ∷ lanes)) s) ≡ all_some (map (λ lane. number_by (part_of lane) t (within_shape (number_at (part_of lane)) s)) (lane ∷ lanes))
+    at t (literal n) h = given_parts lane lanes constant (small n) number sees_number m
+    at t (sum a b) h = (λ i. small_lists ◌+ℤ◌ (h.0 i) (h.1 i)) ∙ pairs_of_all ◌+ℤ◌ (λ lane. number_at (part_of lane) a) (λ lane. number_at (part_of lane) b) (lane ∷ lanes)
+    at t (difference a b) h = (λ i. small_lists ◌-ℤ◌ (h.0 i) (h.1 i)) ∙ pairs_of_all ◌-ℤ◌ (λ lane. number_at (part_of lane) a) (λ lane. number_at (part_of lane) b) (lane ∷ lanes)
+    at t (opposite a) h = ap (scaled_numbers (Some (negsuc 0))) h ∙ (scaled_lanes lane lanes (Some (negsuc 0)) (λ lane. number_at (part_of lane) a)
+        ∙ (λ i. all_some (map (λ lane. option_and_then (λ y. small (minus y i)) (number_at (part_of lane) a)) (lane ∷ lanes))))
+    at t (multiple n a) h = ap (scaled_numbers (small n)) h ∙ scaled_lanes lane lanes (small n) (λ lane. number_at (part_of lane) a)
+    at t whole h = given_parts lane lanes (atom t) (Some (pos 1)) (λ n p. if same_part (atom t) p then n else pos 0) (λ lane n k. ap (λ b. if b then n else pos 0) (sees lane (atom t) k)) m
+
+pub each_fits_is : (lanes : List Lane) → Every IsMarked lanes → (fact : Fact) → each_fits lanes fact ≡ list_all (λ lane. is_some (fact_number_at (part_of lane) fact)) lanes
+each_fits_is [] m fact = refl
+each_fits_is (lane ∷ lanes) m fact =
+    (λ i. differences_fit (lane_numbers_are lane lanes m (left_of fact) i) (lane_numbers_are lane lanes m (right_of fact) i)
+        ((given_parts lane lanes constant (Some (extra_of fact)) number sees_number m ∙ all_there (λ lane. number (extra_of fact) (part_of lane)) (lane ∷ lanes)) i))
+    ∙ all_fit (λ lane. number_at (part_of lane) (left_of fact)) (λ lane. number_at (part_of lane) (right_of fact)) (λ lane. number (extra_of fact) (part_of lane)) (lane ∷ lanes)
+
+-- lanes stay marked
+stays_marked : (ws : List (ℤ × Fact)) (lane : Lane) → IsMarked lane → IsMarked (with_weights ws lane)
+stays_marked [] lane m = m
+stays_marked (w ∷ ws) lane m = stays_marked ws (with_fact w.0 w.1 lane) m
+
+all_marked : (ws : List (ℤ × Fact)) (lanes : List Lane) → All IsFresh lanes → Every IsMarked (map (with_weights ws) lanes)
+all_marked ws [] h = tt
+all_marked ws (lane ∷ lanes) h = (stays_marked ws lane (All-head IsFresh lane lanes h).mark, all_marked ws lanes (All-tail IsFresh lane lanes h))
+
+fits_as_parts : (ws : List (ℤ × Fact)) (lanes : List Lane) → Every IsMarked lanes → list_all (λ w. fits_each lanes w.1) ws ≡ list_all (λ w. fits_parts lanes w.1) ws
+fits_as_parts [] lanes m = refl
+fits_as_parts (w ∷ ws) lanes m = λ i. (is_some (fact_size w.1) || each_fits_is lanes m w.1 i) && fits_as_parts ws lanes m i
+
 -- ---- many lanes
 
 all_true : {A : Type 0} (f : A → Bool) → ((x : A) → f x ≡ true) → (xs : List A) → list_all f xs ≡ true
@@ -140,19 +197,22 @@ or_and true b c = refl
 or_and false b c = refl
 
 -- the facts fit each lane exactly where each lane's part is within its bounds
-pub fit_lanes : (ws vs : List (ℤ × Fact)) (lanes : List Lane) → list_all (λ w. fits_each (map (with_weights vs) lanes) w.1) ws ≡ list_all (λ lane. fit_at ws (part_of lane)) lanes
-fit_lanes ws vs [] = all_true (λ w. is_some (fact_size w.1) || true) (λ w. or_true (is_some (fact_size w.1))) ws
-fit_lanes ws vs (lane ∷ lanes) =
+fit_parts : (ws vs : List (ℤ × Fact)) (lanes : List Lane) → list_all (λ w. fits_parts (map (with_weights vs) lanes) w.1) ws ≡ list_all (λ lane. fit_at ws (part_of lane)) lanes
+fit_parts ws vs [] = all_true (λ w. is_some (fact_size w.1) || true) (λ w. or_true (is_some (fact_size w.1))) ws
+fit_parts ws vs (lane ∷ lanes) =
     let here = λ (w : ℤ × Fact). is_some (fact_size w.1) || is_some (fact_number_at (part_of (with_weights vs lane)) w.1) in
-    let there = λ (w : ℤ × Fact). fits_each (map (with_weights vs) lanes) w.1 in
-    all_alike (λ w. fits_each (map (with_weights vs) (lane ∷ lanes)) w.1) (λ w. here w && there w)
+    let there = λ (w : ℤ × Fact). fits_parts (map (with_weights vs) lanes) w.1 in
+    all_alike (λ w. fits_parts (map (with_weights vs) (lane ∷ lanes)) w.1) (λ w. here w && there w)
         (λ w. or_and (is_some (fact_size w.1)) (is_some (fact_number_at (part_of (with_weights vs lane)) w.1)) (list_all (λ lane. is_some (fact_number_at (part_of lane) w.1)) (map (with_weights vs) lanes))) ws
-    ∙ (all_both here there ws ∙ (λ i. fit_at ws (same_lane vs lane i) && fit_lanes ws vs lanes i))
+    ∙ (all_both here there ws ∙ (λ i. fit_at ws (same_lane vs lane i) && fit_parts ws vs lanes i))
+
+pub fit_lanes : (ws vs : List (ℤ × Fact)) (lanes : List Lane) → All IsFresh lanes → list_all (λ w. fits_each (map (with_weights vs) lanes) w.1) ws ≡ list_all (λ lane. fit_at ws (part_of lane)) lanes
+fit_lanes ws vs lanes fresh = fits_as_parts ws (map (with_weights vs) lanes) (all_marked vs lanes fresh) ∙ fit_parts ws vs lanes
 
 -- and with sums of 0, exactly where each lane's part is right
 pub right_lanes : (ws : List (ℤ × Fact)) (lanes : List Lane) → All IsFresh lanes
     → (list_all (λ w. fits_each (map (with_weights ws) lanes) w.1) ws && list_all (λ lane. int_eq lane.sum (pos 0)) (map (with_weights ws) lanes)) ≡ list_all (λ lane. is_right ws (part_of lane)) lanes
-right_lanes ws lanes fresh = ap (λ b. b && list_all (λ lane. int_eq lane.sum (pos 0)) (map (with_weights ws) lanes)) (fit_lanes ws ws lanes)
+right_lanes ws lanes fresh = ap (λ b. b && list_all (λ lane. int_eq lane.sum (pos 0)) (map (with_weights ws) lanes)) (fit_lanes ws ws lanes fresh)
     ∙ ((λ i. list_all (λ lane. fit_at ws (part_of lane)) lanes && sums lanes fresh i)
     ∙ sym (all_both (λ lane. fit_at ws (part_of lane)) (λ lane. int_eq (int_wrap w128 (total ws (part_of lane))) (pos 0)) lanes))
   where
@@ -177,9 +237,9 @@ right_parts ws lanes done parts fit zero fresh e d f z = (λ i. f i && z i)
     ∙ (right_lanes ws lanes fresh ∙ (sym (list_all-map (λ part. is_right ws (part_behind part)) (λ lane. lane.part) lanes) ∙ ap (list_all (λ part. is_right ws (part_behind part))) e)))
 
 -- the one lane of the constant
-pub constant_fits : (ws : List (ℤ × Fact)) (lane : Lane) (done : List Lane) (fit : Bool) → part_behind lane.part ≡ constant → done ≡ map (with_weights ws) (lane ∷ [])
+pub constant_fits : (ws : List (ℤ × Fact)) (lane : Lane) (done : List Lane) (fit : Bool) → part_behind lane.part ≡ constant → IsFresh lane → done ≡ map (with_weights ws) (lane ∷ [])
     → fit ≡ list_all (λ w. fits_each done w.1) ws → fit ≡ fit_at ws constant
-constant_fits ws lane done fit e d f = f ∙ (ap (λ done. list_all (λ w. fits_each done w.1) ws) d ∙ (fit_lanes ws ws (lane ∷ []) ∙ (and_true (fit_at ws (part_of lane)) ∙ ap (fit_at ws) e)))
+constant_fits ws lane done fit e fresh d f = f ∙ (ap (λ done. list_all (λ w. fits_each done w.1) ws) d ∙ (fit_lanes ws ws (lane ∷ []) (All-cons IsFresh lane [] fresh (All-nil IsFresh)) ∙ (and_true (fit_at ws (part_of lane)) ∙ ap (fit_at ws) e)))
   where
     and_true : (b : Bool) → (b && true) ≡ b
     and_true true = refl

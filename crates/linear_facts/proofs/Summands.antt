@@ -9,7 +9,7 @@ use Rattle.linear_facts.specs.Closing.{total}
 use Rattle.linear_facts.specs.Facts.{Fact, form_of}
 use Rattle.linear_facts.specs.Forms.{Shape, literal, sum, difference, opposite, multiple, whole, shape_of, within_shape, over_shapes, Part, atom, constant, number, once, form_by, form, same_term}
 use Rattle.linear_facts.specs.Working.{left_of, right_of, extra_of}
-use Rattle.linear_facts.proofs.Integers.{times-sum, times-opposite, times-times, sum-times}
+use Rattle.linear_facts.proofs.Integers.{minus_one, times-sum, times-opposite, times-times, sum-times}
 use Rattle.linear_facts.proofs.ShapeLaws.{EachPart, over_is, over_at, by_shape}
 use Rattle.linear_facts.proofs.SumLaws.{form_is, fact_form}
 
@@ -70,10 +70,6 @@ valued-scaled n f [] = sym (*ℤ-zero n)
 valued-scaled n f (o ∷ os) = (λ i. times-times n o.0 (f o.1) i +ℤ valued-scaled n f os i) ∙ sym (times-sum n (o.0 *ℤ f o.1) (valued f os))
 
 -- ---- the numbers of a form
-
-pub minus_one : (z : ℤ) → neg_ℤ (pos 1) *ℤ z ≡ neg_ℤ z
-unfolding one
-minus_one z = *ℤ_comm (neg_ℤ (pos 1)) z ∙ (times-opposite z (pos 1) ∙ ap neg_ℤ (*ℤ-one z))
 
 number_is : (u t : Term) → number_of u (summands t) ≡ form t (atom u)
 number_is u = by_shape (λ t. number_of u (summands t) ≡ form t (atom u)) (λ t h. ap (number_of u) (over_is summands_by t) ∙ (at t (shape_of t) h ∙ sym (form_is t (atom u))))

@@ -22,10 +22,10 @@ use Rattle.term_laws.proofs.Meanings.{parts_of, mapped_parts}
 use Rattle.linear_facts.specs.Facts.{Fact, at_most, below, equal_to, form_of, is_equation, denied, compared, comparison_in, comparison, bound_by, bound_in, bound, may_be_number, equation_by, equation_in, equation, fact_of}
 use Rattle.linear_facts.specs.Working.{left_of, right_of, extra_of}
 use Rattle.linear_facts.specs.Forms.{Shape, literal, sum, difference, opposite, multiple, whole, product, applied as shaped_by, shaped, literal_of, number_in, shape_of, within_shape, Part, atom, constant, number, once, form_by, form}
-use Rattle.linear_facts.proofs.Integers.{times-sum, times-opposite}
+use Rattle.linear_facts.proofs.Integers.{minus_one, times-sum, times-opposite}
 use Rattle.linear_facts.proofs.ShapeLaws.{EachPart, over_is, by_shape}
 use Rattle.linear_facts.proofs.SumLaws.{form_is, fact_form}
-use Rattle.linear_facts.proofs.Summands.{Summands, scaled, summands_by, summands, summands_in, valued, valued-append, valued-scaled, minus_one}
+use Rattle.linear_facts.proofs.Summands.{Summands, scaled, summands_by, summands, summands_in, valued, valued-append, valued-scaled}
 
 -- ---- how a term of a shape is written
 

@@ -1,11 +1,12 @@
 -- What the code works with: marks that tell atoms apart quickly, lanes in which numbers of parts are added up, and the
 -- exact numbers of a form where all are small.
-use Rattle.std.specs.Prelude.{◌≡◌, ℕ, ◌+◌, ◌*◌, ◌%◌, ◌≤◌, ◌^◌, ℤ, pos, ◌+ℤ◌, ◌-ℤ◌, ◌*ℤ◌, neg_ℤ, unsigned_abs, nat_le, nat_lt, int_lt, count_by, is_some, List, [], ◌∷◌, ◌++◌, fold, Bool, true, false, not, ◌&&◌, ◌||◌, ◌==◌, if◌then◌else◌, Option, Some, None}
+use Rattle.std.specs.Prelude.{◌≡◌, ℕ, ◌+◌, ◌*◌, ◌%◌, ◌≤◌, ◌^◌, ℤ, pos, negsuc, ◌+ℤ◌, ◌-ℤ◌, ◌*ℤ◌, neg_ℤ, unsigned_abs, nat_le, nat_lt, int_lt, count_by, is_some, List, [], ◌∷◌, ◌++◌, map, drop, fold, Bool, true, false, not, ◌&&◌, ◌||◌, ◌==◌, if◌then◌else◌, Option, Some, None}
 use Rattle.std.specs.List.{list_all}
 use Rattle.std.specs.Int.{int_wrap}
 use Rattle.std.specs.Option.{option_map, option_and_then}
 use Rattle.std.specs.Ordering.{int_eq}
 use mir.Syntax.{w128}
+use Rattle.arrayvec.specs.ArrayVec.{ArrayVec}
 use Rattle.term_core.specs.declared.term.Term.{Term}
 use Rattle.term_core.specs.declared.term.Term.TheOpen.{Term-F}
 use Rattle.term_core.specs.declared.term.Term.TheFolds.{fold-Term}
@@ -16,6 +17,7 @@ use Rattle.term_core.specs.declared.sequent.Sequent.{Sequent}
 use Rattle.term_core.specs.Operations.{is_zero}
 use Rattle.linear_facts.specs.Closing.{each_may_weigh, weights, total, most_coefficient, most_number}
 use Rattle.linear_facts.specs.Facts.{Fact, at_most, below, equal_to}
+use Rattle.term_core.specs.Options.{all_some}
 use Rattle.linear_facts.specs.Forms.{Shape, literal, sum, difference, opposite, multiple, whole, over_shapes, Part, atom, constant, number, same_term}
 use Rattle.linear_facts.specs.Views.{part_behind}
 
@@ -119,6 +121,64 @@ number_at p = over_shapes (number_by p)
 abbrev pub fact_number_at : Part → Fact → Option ℤ
 fact_number_at p fact = small_of (λ x y. x -ℤ y +ℤ number (extra_of fact) p) (number_at p (left_of fact)) (number_at p (right_of fact))
 
+-- ---- exact numbers of many lanes at once, told by their marks
+
+abbrev pub plus_or_minus : Bool → ℤ → ℤ → ℤ
+plus_or_minus minus x y = if minus then x -ℤ y else x +ℤ y
+
+abbrev pub items_of : Option (ArrayVec ℤ) → Option (List ℤ)
+items_of o = option_map (λ v. v.items) o
+
+-- each number of one list with that of another one, as long as that has one
+abbrev pub small_first : (ℤ → ℤ → ℤ) → ℤ → List ℤ → Option ℤ
+small_first f x [] = None
+small_first f x (y ∷ ys) = small (f x y)
+
+abbrev pub small_pairs : (ℤ → ℤ → ℤ) → List ℤ → List ℤ → Option (List ℤ)
+small_pairs f [] ys = Some []
+small_pairs f (x ∷ xs) ys = option_and_then (λ z. option_map (λ zs. z ∷ zs) (small_pairs f xs (drop 1 ys))) (small_first f x ys)
+
+abbrev pub small_lists : (ℤ → ℤ → ℤ) → Option (List ℤ) → Option (List ℤ) → Option (List ℤ)
+small_lists f a b = option_and_then (λ xs. option_and_then (λ ys. small_pairs f xs ys) b) a
+
+-- a number's part of each lane
+abbrev pub part_numbers : List Lane → Part → Option ℤ → Option (List ℤ)
+part_numbers lanes part number = option_map (λ n. map (λ lane. seen lane part n) lanes) number
+
+abbrev pub scaled_list : ℤ → List ℤ → Option (List ℤ)
+scaled_list n xs = all_some (map (λ x. small (n *ℤ x)) xs)
+
+abbrev pub scaled_numbers : Option ℤ → Option (List ℤ) → Option (List ℤ)
+scaled_numbers n a = option_and_then (λ k. option_and_then (λ xs. scaled_list k xs) a) n
+
+abbrev pub lane_numbers_by : List Lane → Term → Shape (Option (List ℤ)) → Option (List ℤ)
+lane_numbers_by lanes t (literal n) = part_numbers lanes constant (small n)
+lane_numbers_by lanes t (sum a b) = small_lists (plus_or_minus false) a b
+lane_numbers_by lanes t (difference a b) = small_lists (plus_or_minus true) a b
+lane_numbers_by lanes t (opposite a) = scaled_numbers (Some (negsuc 0)) a
+lane_numbers_by lanes t (multiple n a) = scaled_numbers (small n) a
+lane_numbers_by lanes t whole = part_numbers lanes (atom t) (Some (pos 1))
+
+abbrev pub lane_numbers : List Lane → Term → Option (List ℤ)
+lane_numbers lanes = over_shapes (lane_numbers_by lanes)
+
+-- whether all differences, with what is besides, are small
+abbrev pub first_difference : ℤ → List ℤ → List ℤ → Bool
+first_difference x (y ∷ ys) (e ∷ es) = is_some (small (x -ℤ y +ℤ e))
+first_difference x _ _ = false
+
+abbrev pub small_differences : List ℤ → List ℤ → List ℤ → Bool
+small_differences [] ys es = true
+small_differences (x ∷ xs) ys es = first_difference x ys es && small_differences xs (drop 1 ys) (drop 1 es)
+
+abbrev pub differences_fit : Option (List ℤ) → Option (List ℤ) → Option (List ℤ) → Bool
+differences_fit (Some xs) (Some ys) (Some es) = small_differences xs ys es
+differences_fit _ _ _ = false
+
+abbrev pub each_fits : List Lane → Fact → Bool
+each_fits [] fact = true
+each_fits lanes fact = differences_fit (lane_numbers lanes (left_of fact)) (lane_numbers lanes (right_of fact)) (part_numbers lanes constant (Some (extra_of fact)))
+
 -- ---- sizes: numbers added up without their signs, over all parts
 
 abbrev pub small_size : ℕ → Option ℕ
@@ -146,7 +206,10 @@ abbrev pub fits_at : Part → Fact → Bool
 fits_at p fact = is_some (fact_size fact) || is_some (fact_number_at p fact)
 
 abbrev pub fits_each : List Lane → Fact → Bool
-fits_each lanes fact = is_some (fact_size fact) || list_all (λ lane. is_some (fact_number_at (part_behind lane.part) fact)) lanes
+fits_each lanes fact = is_some (fact_size fact) || each_fits lanes fact
+
+abbrev pub fits_parts : List Lane → Fact → Bool
+fits_parts lanes fact = is_some (fact_size fact) || list_all (λ lane. is_some (fact_number_at (part_behind lane.part) fact)) lanes
 
 -- ---- parts that are as they should be
 

@@ -1,14 +1,15 @@
 // The bound of 10^18 on the numbers of forms.
-ghost use Rattle.std.specs.Prelude.{◌≡◌, ◌+◌, ◌*◌, ◌+ℤ◌, ◌-ℤ◌, ◌*ℤ◌, pos, unsigned_abs, is_some, Some, if◌then◌else◌};
+ghost use Rattle.std.specs.Prelude.{◌≡◌, ◌≤◌, length, drop, ◌+◌, ◌*◌, ◌+ℤ◌, ◌-ℤ◌, ◌*ℤ◌, pos, map, unsigned_abs, is_some, Some, if◌then◌else◌};
 ghost use Rattle.std.specs.Option.{option_map};
 ghost use Rattle.linear_facts.specs.Closing.{most_number};
 ghost use Rattle.linear_facts.specs.Views.{fact_behind, part_behind};
 ghost use Rattle.linear_facts.specs.Forms.{number, atom};
-ghost use Rattle.linear_facts.specs.Working.{same_part, small, small_of, number_at, extra_of, fact_number_at, small_size, size_of_two, size_at, fact_size};
+ghost use Rattle.linear_facts.specs.Working.{is_lane_of, seen, small, part_numbers, scaled_list, scaled_numbers, plus_or_minus, small_first, small_pairs, items_of, lane_numbers, small_lists, first_difference, small_differences, differences_fit, each_fits, small_size, size_of_two, size_at, fact_size};
 
 use crate::facts::Fact;
-use crate::lanes::Part;
+use crate::lanes::{Lane, Part, WINDOW};
 use crate::shapes::{Shape, shape_of};
+use arrayvec::ArrayVec;
 use term_core::Term;
 
 /// No number of a form may be above this one in size.
@@ -34,68 +35,123 @@ fn small_size(size: u128) -> Option<u64>
     }
 }
 
-// The part's number in the form of a literal.
-fn literal_number(value: Option<i64>, part: Part) -> Option<i64>
-    ensures { result ≡ option_map (λ n. number n (part_behind part.entry)) value }
-{
-    match part {
-        Part::Atom(_) => {
-            let _value = value?;
-            Some(0)
-        }
-        Part::Constant => value,
-    }
-}
-
-// The part's number in the form of an atom.
-fn atom_number<'a>(term: &'a Term, part: Part<'a>) -> Option<i64>
-    ensures { result ≡ Some (if same_part (atom term.now) (part_behind part.entry) then pos 1 else pos 0) }
-{
-    if Part::Atom(term).is(part) {
-        Some(1)
-    } else {
-        Some(0)
-    }
-}
-
-fn small_sum(a: Option<i64>, b: Option<i64>) -> Option<i64>
-    ensures { result ≡ small_of ◌+ℤ◌ a b }
-{
-    small(a? as i128 + b? as i128)
-}
-
-fn small_difference(a: Option<i64>, b: Option<i64>) -> Option<i64>
-    ensures { result ≡ small_of ◌-ℤ◌ a b }
-{
-    small(a? as i128 - b? as i128)
-}
-
 fn times(a: i64, b: i64) -> i128
     ensures { result ≡ a *ℤ b }
 {
     a as i128 * b as i128
 }
 
-fn small_product(a: Option<i64>, b: Option<i64>) -> Option<i64>
-    ensures { result ≡ small_of ◌*ℤ◌ a b }
+// ---- many lanes at once
+
+type Numbers = ArrayVec<i64, WINDOW>;
+
+fn small_pair(a: i64, b: i64, minus: bool) -> Option<i64>
+    ensures { result ≡ small (plus_or_minus minus a b) }
 {
-    small(times(a?, b?))
+    if minus {
+        small(a as i128 - b as i128)
+    } else {
+        small(a as i128 + b as i128)
+    }
 }
 
-// The part's number in the term's form; none where a literal, or a number of the part, is too large
-// in a term that is taken apart.
-fn number_in<'a>(term: &'a Term, part: Part<'a>) -> Option<i64>
-    ensures { result ≡ number_at (part_behind part.entry) term.now }
+fn small_at(a: i64, others: &[i64], at: usize, minus: bool) -> Option<i64>
+    ensures { result ≡ small_first (plus_or_minus minus) a (drop at others.now) }
+{
+    if at < others.len() {
+        small_pair(a, others[at], minus)
+    } else {
+        None
+    }
+}
+
+// The sums, or the differences, of two lists' numbers.
+fn small_pairs(a: &[i64], b: &[i64], minus: bool) -> Option<Numbers>
+    requires { length a.now ≤ WINDOW }
+    ensures { items_of result ≡ small_pairs (plus_or_minus minus) a.now b.now }
+{
+    let mut numbers = ArrayVec::new();
+    for (i, x) in a.iter().enumerate() {
+        match small_at(*x, b, i, minus) {
+            Some(number) => numbers.push(number),
+            None => return None,
+        }
+    }
+    Some(numbers)
+}
+
+fn small_lists(a: Option<Numbers>, b: Option<Numbers>, minus: bool) -> Option<Numbers>
+    ensures { items_of result ≡ small_lists (plus_or_minus minus) (items_of a) (items_of b) }
+{
+    small_pairs(a?.as_slice(), b?.as_slice(), minus)
+}
+
+fn part_number<'a>(lane: &Lane<'a>, part: Part<'a>, mark: u32, number: i64) -> i64
+    ensures { result ≡ (if is_lane_of lane.now (part_behind part.entry) mark then number else pos 0) }
+{
+    if lane.is_of(part, mark) { number } else { 0 }
+}
+
+// The number for the lanes of the part, and 0 for others.
+fn part_list<'a>(lanes: &[Lane<'a>], part: Part<'a>, number: i64) -> Numbers
+    requires { length lanes.now ≤ WINDOW }
+    ensures { result.items ≡ map (λ lane. seen lane (part_behind part.entry) number) lanes.now }
+{
+    let mark = part.mark();
+    let mut numbers = ArrayVec::new();
+    for lane in lanes {
+        numbers.push(part_number(lane, part, mark, number));
+    }
+    numbers
+}
+
+fn scaled_list(number: i64, list: &[i64]) -> Option<Numbers>
+    requires { length list.now ≤ WINDOW }
+    ensures { items_of result ≡ scaled_list number list.now }
+{
+    let mut numbers = ArrayVec::new();
+    for x in list {
+        match small(times(number, *x)) {
+            Some(product) => numbers.push(product),
+            None => return None,
+        }
+    }
+    Some(numbers)
+}
+
+fn scaled_numbers(number: Option<i64>, list: Option<Numbers>) -> Option<Numbers>
+    ensures { items_of result ≡ scaled_numbers number (items_of list) }
+{
+    scaled_list(number?, list?.as_slice())
+}
+
+fn part_numbers<'a>(lanes: &[Lane<'a>], part: Part<'a>, number: Option<i64>) -> Option<Numbers>
+    requires { length lanes.now ≤ WINDOW }
+    ensures { items_of result ≡ part_numbers lanes.now (part_behind part.entry) number }
+{
+    match number {
+        Some(number) => Some(part_list(lanes, part, number)),
+        None => None,
+    }
+}
+
+// The numbers of the lanes' parts in the term's form; none where a literal, or one of these numbers,
+// is too large in a term that is taken apart.
+fn numbers_in<'a>(term: &'a Term, lanes: &[Lane<'a>]) -> Option<Numbers>
+    requires { length lanes.now ≤ WINDOW }
+    ensures { items_of result ≡ lane_numbers lanes.now term.now }
 {
     match shape_of(term) {
-        Shape::Literal(value) => literal_number(small(value), part),
-        Shape::Sum(left, right) => small_sum(number_in(left, part), number_in(right, part)),
-        Shape::Difference(left, right) => {
-            small_difference(number_in(left, part), number_in(right, part))
+        Shape::Literal(value) => part_numbers(lanes, Part::Constant, small(value)),
+        Shape::Sum(left, right) => {
+            small_lists(numbers_in(left, lanes), numbers_in(right, lanes), false)
         }
-        Shape::Opposite(inner) => small_difference(Some(0), number_in(inner, part)),
-        Shape::Multiple(value, inner) => small_product(small(value), number_in(inner, part)),
-        Shape::Atom => atom_number(term, part),
+        Shape::Difference(left, right) => {
+            small_lists(numbers_in(left, lanes), numbers_in(right, lanes), true)
+        }
+        Shape::Opposite(inner) => scaled_numbers(Some(-1), numbers_in(inner, lanes)),
+        Shape::Multiple(value, inner) => scaled_numbers(small(value), numbers_in(inner, lanes)),
+        Shape::Atom => part_numbers(lanes, Part::Atom(term), Some(1)),
     }
 }
 
@@ -141,29 +197,59 @@ fn difference(left: i64, right: i64, extra: i64) -> i128
     left as i128 - right as i128 + extra as i128
 }
 
-// The part's number in the fact's form.
-fn fact_number(left: Option<i64>, right: Option<i64>, extra: i64) -> Option<i64>
-    ensures { result ≡ small_of (λ x y. x -ℤ y +ℤ extra) left right }
+fn is_small(number: i128) -> bool
+    ensures { result ≡ is_some (small number) }
 {
-    small(difference(left?, right?, extra))
+    small(number).is_some()
 }
 
-/// Whether no literal, and no number of the part, is too large in the fact.
-pub fn fits<'a>(fact: Fact<'a>, part: Part<'a>) -> bool
-    ensures { result ≡ is_some (fact_number_at (part_behind part.entry) (fact_behind fact.entry)) }
+fn first_difference(x: i64, others: &[i64], extras: &[i64], at: usize) -> bool
+    ensures { result ≡ first_difference x (drop at others.now) (drop at extras.now) }
 {
-    let left = number_in(fact.left(), part);
-    let right = number_in(fact.right(), part);
-    fact_number(left, right, extra_number(fact, part)).is_some()
-}
-
-fn extra_number<'a>(fact: Fact<'a>, part: Part<'a>) -> i64
-    ensures { result ≡ number (extra_of (fact_behind fact.entry)) (part_behind part.entry) }
-{
-    match part {
-        Part::Atom(_) => 0,
-        Part::Constant => fact.extra(),
+    if at < others.len() && at < extras.len() {
+        is_small(difference(x, others[at], extras[at]))
+    } else {
+        false
     }
+}
+
+fn small_differences(left: &[i64], right: &[i64], extras: &[i64]) -> bool
+    ensures { result ≡ small_differences left.now right.now extras.now }
+{
+    for (i, x) in left.iter().enumerate() {
+        if !first_difference(*x, right, extras, i) {
+            return false;
+        }
+    }
+    true
+}
+
+fn differences_fit(
+    left: Option<Numbers>,
+    right: Option<Numbers>,
+    extras: Option<Numbers>,
+) -> bool
+    ensures { result ≡ differences_fit (items_of left) (items_of right) (items_of extras) }
+{
+    match (left, right, extras) {
+        (Some(left), Some(right), Some(extras)) => {
+            small_differences(left.as_slice(), right.as_slice(), extras.as_slice())
+        }
+        _ => false,
+    }
+}
+
+/// Whether no literal, and no number of a lane's part, is too large in the fact.
+pub fn each_fits<'a>(fact: Fact<'a>, lanes: &[Lane<'a>]) -> bool
+    requires { length lanes.now ≤ WINDOW }
+    ensures { result ≡ each_fits lanes.now (fact_behind fact.entry) }
+{
+    if lanes.is_empty() {
+        return true;
+    }
+    let left = numbers_in(fact.left(), lanes);
+    let right = numbers_in(fact.right(), lanes);
+    differences_fit(left, right, part_numbers(lanes, Part::Constant, Some(fact.extra())))
 }
 
 fn fact_size(left: Option<u64>, right: Option<u64>) -> Option<u64>

@@ -7,9 +7,9 @@ ghost use Rattle.linear_facts.specs.Closing.{Closes, may_weigh, each_may_weigh, 
 ghost use Rattle.linear_facts.specs.Views.{fact_behind, found, part_behind};
 ghost use Rattle.linear_facts.specs.Working.{keeps_rules, is_closed, with_weights, fact_number_at, fits_each, IsFresh, same_part, is_right, is_atom_right, is_contradiction, all_right, atoms_of, atoms_in, all_atoms};
 
-use crate::bounds::{fits, is_light};
+use crate::bounds::{each_fits, is_light};
 use crate::facts::{Fact, fact_at};
-use crate::lanes::{Lane, Part, add_fact};
+use crate::lanes::{Lane, Part, WINDOW, add_fact};
 use crate::shapes::{Shape, shape_of};
 use arrayvec::ArrayVec;
 use term_core::{Sequent, Term};
@@ -19,9 +19,6 @@ const MOST_COEFFICIENT: u64 = 1_000_000_000;
 
 /// So many coefficients other than 0 are too many.
 const TOO_MANY: usize = 4_294_967_296;
-
-/// How many atoms are added up at once.
-const WINDOW: usize = 64;
 
 // ---- the rules on coefficients
 
@@ -99,13 +96,8 @@ fn add_weights<'a>(sequent: &'a Sequent, coeffs: &[i64], lanes: &mut [Lane<'a>])
 
 // ---- the bounds
 
-fn each_fits<'a>(fact: Fact<'a>, lanes: &[Lane<'a>]) -> bool
-    ensures { result ≡ list_all (λ lane. is_some (fact_number_at (part_behind lane.part) (fact_behind fact.entry))) lanes.now }
-{
-    lanes.iter().all(|lane| fits(fact, lane.part))
-}
-
 fn weight_fits<'a>(coefficient: i64, fact: Option<Fact<'a>>, lanes: &[Lane<'a>]) -> bool
+    requires { length lanes.now ≤ WINDOW }
     ensures { result ≡ list_all (λ w. fits_each lanes.now w.1) (weighed coefficient (found fact.entry)) }
 {
     match fact {
@@ -115,6 +107,7 @@ fn weight_fits<'a>(coefficient: i64, fact: Option<Fact<'a>>, lanes: &[Lane<'a>])
 }
 
 fn weights_fit<'a>(sequent: &'a Sequent, coeffs: &[i64], lanes: &[Lane<'a>]) -> bool
+    requires { length lanes.now ≤ WINDOW }
     ensures { result ≡ list_all (λ w. fits_each lanes.now w.1) (weights sequent.now coeffs.now) }
 {
     for (i, coefficient) in coeffs.iter().enumerate() {

@@ -16,6 +16,9 @@ const MARKS: u64 = 4_294_967_291;
 /// What a mark is multiplied by where more is mixed into it.
 const SPREAD: u64 = 1_000_003;
 
+/// How many atoms are added up at once.
+pub const WINDOW: usize = 64;
+
 /// What a number of a form stands before: an atom, or nothing.
 #[derive(Clone, Copy)]
 pub enum Part<'a> {
@@ -101,7 +104,7 @@ impl<'a> Part<'a> {
         }
     }
 
-    fn mark(self) -> u32
+    pub fn mark(self) -> u32
         ensures { result ≡ part_mark (part_behind self.entry) }
     {
         match self {
@@ -130,7 +133,7 @@ impl<'a> Lane<'a> {
         }
     }
 
-    fn is_of(&self, part: Part<'a>, mark: u32) -> bool
+    pub fn is_of(&self, part: Part<'a>, mark: u32) -> bool
         ensures { result ≡ is_lane_of self.now (part_behind part.entry) mark }
     {
         self.mark == mark && part.is(self.part)
