@@ -342,37 +342,41 @@ fn bounds_are_kept(rt: HostRuntime) -> Result<(), Fail> {
 
 // ---- more atoms than are added up at once
 
-fn variable(alloc: Global, number: u8) -> Result<Term, Memory> {
+// A number times the variable of a number.
+fn scaled(alloc: Global, factor: i128, number: u8) -> Result<Term, Memory> {
     let mut bytes = Vec::new(alloc);
     bytes.push(b'X')?;
     bytes.push(number)?;
-    Ok(Term::Var(Text::from(bytes)))
+    let mut factors = Vec::new(alloc);
+    factors.push(Term::Int(factor))?;
+    factors.push(Term::Var(Text::from(bytes)))?;
+    Ok(Term::Op(Oper::Mul, Items::from_vec(factors)))
 }
 
-// The variable of a number is at most the one of another number.
-fn at_most(alloc: Global, low: u8, high: u8) -> Result<Term, Memory> {
+// The variable of a number is at most the one of another number, both times a factor.
+fn at_most(alloc: Global, factor: i128, low: u8, high: u8) -> Result<Term, Memory> {
     let mut sides = Vec::new(alloc);
-    sides.push(variable(alloc, low)?)?;
-    sides.push(variable(alloc, high)?)?;
+    sides.push(scaled(alloc, factor, low)?)?;
+    sides.push(scaled(alloc, factor, high)?)?;
     Ok(Term::Op(Oper::Le, Items::from_vec(sides)))
 }
 
 // X0 <= X1, X1 <= X2 and so on, up to X200; and the goal X0 <= X200.
-fn chain(alloc: Global) -> Result<Sequent, Memory> {
+fn chain(alloc: Global, factor: i128) -> Result<Sequent, Memory> {
     let mut hyps: Terms = Items::new(alloc);
     for i in 0u8..200 {
-        hyps.push(at_most(alloc, i, i + 1)?)?;
+        hyps.push(at_most(alloc, factor, i, i + 1)?)?;
     }
     Ok(Sequent {
         vars: Vars::new(alloc),
         hyps,
-        goal: at_most(alloc, 0, 200)?,
+        goal: at_most(alloc, factor, 0, 200)?,
     })
 }
 
 // Whether the chain is closed, and whether it is with one of its weights less, or one greater.
-fn chain_closes(alloc: Global) -> Result<(bool, bool, bool), Memory> {
-    let sequent = chain(alloc)?;
+fn chain_closes(alloc: Global, factor: i128) -> Result<(bool, bool, bool), Memory> {
+    let sequent = chain(alloc, factor)?;
     let ones = vec![in alloc; 1; 201]?;
     let whole = closes(&sequent, ones.as_slice());
     let less = closes(&sequent, with_more(alloc, ones.as_slice(), 150, -1)?.as_slice());
@@ -382,6 +386,10 @@ fn chain_closes(alloc: Global) -> Result<(bool, bool, bool), Memory> {
 
 #[test]
 fn many_atoms_are_added_up(rt: HostRuntime) -> Result<(), Fail> {
-    assert_eq!(rt; chain_closes(rt.alloc())?, (true, false, false));
+    let alloc = rt.alloc();
+    assert_eq!(rt; chain_closes(alloc, 1)?, (true, false, false));
+    // Numbers so large that each is held to the bound, and met and passed by one.
+    assert_eq!(rt; chain_closes(alloc, 1_000_000_000_000_000_000)?, (true, false, false));
+    assert_eq!(rt; chain_closes(alloc, 1_000_000_000_000_000_001)?, (false, false, false));
     Ok(())
 }

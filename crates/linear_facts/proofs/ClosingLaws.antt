@@ -1,26 +1,26 @@
 -- What the code asks holds exactly where the coefficients close the sequent.
-use Rattle.std.proofs.Common.{◌≡◌, ◌↔◌, ℕ, suc, ◌+◌, ◌*◌, ◌^◌, ◌≤◌, ◌<◌, ℤ, pos, ◌+ℤ◌, ◌-ℤ◌, ◌*ℤ◌, ◌<ℤ◌, List, [], ◌∷◌, ◌++◌, length, Bool, true, false, not, ◌&&◌, ◌||◌, if◌then◌else◌, Option, Some, None, refl, sym, ◌∙◌, IsTrue, ap, subst, arith, lit≤, lit<, leb-true, le-leb, length-append}
+use Rattle.std.proofs.Common.{◌≡◌, ◌↔◌, ℕ, suc, ◌+◌, ◌*◌, ◌^◌, ◌≤◌, ◌<◌, ℤ, pos, ◌+ℤ◌, ◌-ℤ◌, ◌*ℤ◌, ◌<ℤ◌, List, [], ◌∷◌, ◌++◌, length, Bool, true, false, not, ◌&&◌, ◌||◌, if◌then◌else◌, Option, Some, None, refl, sym, ◌∙◌, IsTrue, ap, subst, arith, lit≤, leb-true, le-leb, length-append}
 use Rattle.std.specs.Prelude.{unsigned_abs, nat_le, nat_lt, int_lt, is_some, count_by}
 use Rattle.std.specs.Int.{int_wrap}
-use Rattle.std.specs.List.{All, list_all, list_any}
+use Rattle.std.specs.List.{list_all, list_any}
 use Rattle.std.specs.Ordering.{int_eq}
 use Rattle.std.proofs.lemmas.List.Sums.{sum_by-cons}
 use Rattle.std.proofs.lemmas.Bool.{and_parts, and_from, ltb-true, lt-ltb}
 use Rattle.std.proofs.lemmas.Bool.Decides.{Decides-int_eq}
-use Rattle.std.proofs.lemmas.Int.{ints, int_wrap_fits, fits_signed_from_abs, unsigned_abs-mul}
+use Rattle.std.proofs.lemmas.Int.{ints, int_wrap_fits, fits_signed_from_abs}
 use Rattle.std.proofs.Math.IntN.{*ℤ-zero}
-use Rattle.std.proofs.Math.Nat.{mul-le-mul}
 use mir.Syntax.{w128}
 use Rattle.term_core.specs.declared.term.Term.{Term}
 use Rattle.term_core.specs.declared.sequent.Sequent.{Sequent}
 use Rattle.term_core.specs.Operations.{is_zero}
-use Rattle.linear_facts.specs.Closing.{each_may_weigh, weighed, weights_from, weights, total, most_coefficient, most_number, IsSmall, IsBounded, Closes}
+use Rattle.linear_facts.specs.declared.limits.TheConstants.{MOST_COEFFICIENT, MOST_NUMBER}
+use Rattle.linear_facts.specs.Closing.{each_may_weigh, weighed, weights_from, weights, total, IsBounded, Closes}
 use Rattle.linear_facts.specs.Facts.{Fact, at_most, below, equal_to, form_of, apart_in, fact_at}
-use Rattle.linear_facts.specs.Forms.{Part, atom, constant, Form, number, form, taken_apart}
-use Rattle.linear_facts.specs.Working.{left_of, right_of, extra_of, same_part, small, small_of, number_at, fact_number_at, size_of_two, size_at, fact_size, fits_at, fit_at, is_right, is_atom_right, is_contradiction, atoms_of, atoms_in, all_atoms, keeps_rules, is_closed}
+use Rattle.linear_facts.specs.Forms.{Part, atom, constant, number, form, taken_apart}
+use Rattle.linear_facts.specs.Working.{left_of, right_of, extra_of, same_part, number_at, fact_number_at, size_at, fact_size, fits_at, fit_at, is_right, is_atom_right, is_contradiction, atoms_of, atoms_in, all_atoms, keeps_rules, is_closed}
 use Rattle.linear_facts.proofs.SumLaws.{fact_form, same_part_is}
 use Rattle.linear_facts.proofs.ShapeLaws.{Every}
-use Rattle.linear_facts.proofs.BoundLaws.{every_append, every_left, every_right, every_all, all_every, SmallAt, Within, WithinFact, small_two, both_found, found, finds, size_two, size_bounds, abs_product, abs_sum, abs_difference, at_most_literal, below_most, none_of, absent, no_size}
+use Rattle.linear_facts.proofs.BoundLaws.{every_append, every_left, every_right, every_all, all_every, SmallAt, WithinFact, small_two, both_found, found, finds, size_two, size_bounds, abs_product, at_most_literal, below_most, none_of, absent, no_size}
 
 -- ---- a fact within its bounds at a part
 
@@ -41,7 +41,7 @@ by_number p fact z e =
     let r = small_two (λ x y. x -ℤ y +ℤ number (extra_of fact) p) (number_at p (left_of fact)) (number_at p (right_of fact)) z e in
     let a = found p (left_of fact) r.0 r.1.1.0 in
     let b = found p (right_of fact) r.1.0 r.1.1.1.0 in
-    (subst (λ z. unsigned_abs z ≤ most_number) ((λ i. a.0 i -ℤ b.0 i +ℤ number (extra_of fact) p) ∙ fact_form fact p) r.1.1.1.1.1, (a.1, b.1))
+    (subst (λ z. unsigned_abs z ≤ MOST_NUMBER) ((λ i. a.0 i -ℤ b.0 i +ℤ number (extra_of fact) p) ∙ fact_form fact p) r.1.1.1.1.1, (a.1, b.1))
 
 one_more : (a b c : ℤ) (x y : ℕ) → unsigned_abs a ≤ x → unsigned_abs b ≤ y → unsigned_abs c ≤ 1 → unsigned_abs (a -ℤ b +ℤ c) ≤ x + y + 1
 one_more a b c x y h k l = omega (arith, ints)
@@ -52,7 +52,7 @@ by_size p fact m e =
     let a = (size_bounds (left_of fact) r.0 r.1.1.0).1 p in
     let b = (size_bounds (right_of fact) r.1.0 r.1.1.1.0).1 p in
     let k = one_more (form (left_of fact) p) (form (right_of fact) p) (number (extra_of fact) p) r.0 r.1.0 a.0 b.0 (extra_small fact p) in
-    (subst (λ z. unsigned_abs z ≤ most_number) (fact_form fact p) (below_most _ _ _ k r.1.1.1.1.1), (a.1, b.1))
+    (subst (λ z. unsigned_abs z ≤ MOST_NUMBER) (fact_form fact p) (below_most _ _ _ k r.1.1.1.1.1), (a.1, b.1))
 
 pub within_from : (p : Part) (fact : Fact) → fits_at p fact ≡ true → WithinFact p fact
 within_from p fact e = by_test (is_some (fact_size fact)) refl
@@ -71,7 +71,7 @@ within_to p fact w =
     let b = finds p (right_of fact) (λ q. (w q).1.1) in
     let f : form_of fact p ≡ a.0 -ℤ b.0 +ℤ number (extra_of fact) p = sym (fact_form fact p) ∙ (λ i. sym (found p (left_of fact) a.0 a.1).0 i -ℤ sym (found p (right_of fact) b.0 b.1).0 i +ℤ number (extra_of fact) p) in
     or_right (is_some (fact_size fact)) _ (is_there (fact_number_at p fact) _ (both_found (λ x y. x -ℤ y +ℤ number (extra_of fact) p) (number_at p (left_of fact)) (number_at p (right_of fact)) a.0 b.0 a.1 b.1
-        (subst (λ z. unsigned_abs z ≤ most_number) f (w p).0)))
+    (subst (λ z. unsigned_abs z ≤ MOST_NUMBER) f (w p).0)))
 
 -- ---- bounds at all parts
 
@@ -81,8 +81,11 @@ apart_is (below a b) = refl
 apart_is (equal_to a b) = refl
 
 pub bounded_from : (fact : Fact) → ((p : Part) → WithinFact p fact) → IsBounded fact
-bounded_from fact w = (λ p. (w p).0, λ k d l p. every_all (λ t. SmallAt p (form t)) (apart_in fact)
-    (subst (Every (λ t. SmallAt p (form t))) (sym (apart_is fact)) (every_append _ (taken_apart (left_of fact)) (taken_apart (right_of fact)) (w p).1.0 (w p).1.1)) k d l)
+bounded_from fact w = (
+  λ p. (w p).0,
+  λ k d l p. every_all (λ t. SmallAt p (form t)) (apart_in fact)
+      (subst (Every (λ t. SmallAt p (form t))) (sym (apart_is fact)) (every_append _ (taken_apart (left_of fact)) (taken_apart (right_of fact)) (w p).1.0 (w p).1.1)) k d l,
+)
 
 pub bounded_to : (fact : Fact) → IsBounded fact → (p : Part) → WithinFact p fact
 bounded_to fact h p =
@@ -111,9 +114,9 @@ few_weights sequent i (c ∷ cs) = subst (λ n. length (weights_from sequent i (
     (together (weighed c (fact_at sequent i)) (weights_from sequent (suc i) cs) _ _ (few_first c (fact_at sequent i)) (few_weights sequent (suc i) cs))
 
 abbrev SmallWeight : ℤ × Fact → Type 0
-SmallWeight w = unsigned_abs w.0 ≤ most_coefficient
+SmallWeight w = unsigned_abs w.0 ≤ MOST_COEFFICIENT
 
-small_first : (c : ℤ) (o : Option Fact) → unsigned_abs c ≤ most_coefficient → Every SmallWeight (weighed c o)
+small_first : (c : ℤ) (o : Option Fact) → unsigned_abs c ≤ MOST_COEFFICIENT → Every SmallWeight (weighed c o)
 small_first c None h = tt
 small_first c (Some fact) h = by_test (is_zero c)
   where
@@ -121,7 +124,7 @@ small_first c (Some fact) h = by_test (is_zero c)
     by_test true = tt
     by_test false = (h, tt)
 
-small_weights : (sequent : Sequent) (i : ℕ) (cs : List ℤ) → Every (λ c. unsigned_abs c ≤ most_coefficient) cs → Every SmallWeight (weights_from sequent i cs)
+small_weights : (sequent : Sequent) (i : ℕ) (cs : List ℤ) → Every (λ c. unsigned_abs c ≤ MOST_COEFFICIENT) cs → Every SmallWeight (weights_from sequent i cs)
 small_weights sequent i [] h = tt
 small_weights sequent i (c ∷ cs) h = every_append SmallWeight (weighed c (fact_at sequent i)) (weights_from sequent (suc i) cs) (small_first c (fact_at sequent i) h.0) (small_weights sequent (suc i) cs h.1)
 
@@ -137,17 +140,17 @@ no_total constant = lit≤ tt
 total_size : (p : Part) (ws : List (ℤ × Fact)) → Every SmallWeight ws → Every (λ w. WithinFact p w.1) ws → unsigned_abs (total ws p) ≤ length ws * 1000000000000000000000000000
 total_size p [] h k = no_total p
 total_size p (w ∷ ws) h k = next_size (w.0 *ℤ form_of w.1 p) (total ws p) (length ws)
-    (abs_product w.0 (form_of w.1 p) most_coefficient most_number h.0 k.0.0) (total_size p ws h.1 k.1)
+    (abs_product w.0 (form_of w.1 p) MOST_COEFFICIENT MOST_NUMBER h.0 k.0.0) (total_size p ws h.1 k.1)
 
 below_wrap : (m n : ℕ) → m ≤ n * 1000000000000000000000000000 → n < 2 ^ 32 → m < 2 ^ 127
 below_wrap m n h k = omega arith
 
-pub total_fits : (p : Part) (sequent : Sequent) (cs : List ℤ) → Every (λ c. unsigned_abs c ≤ most_coefficient) cs → count_by (λ c. not (is_zero c)) cs < 2 ^ 32 → Every (λ w. WithinFact p w.1) (weights sequent cs)
+pub total_fits : (p : Part) (sequent : Sequent) (cs : List ℤ) → Every (λ c. unsigned_abs c ≤ MOST_COEFFICIENT) cs → count_by (λ c. not (is_zero c)) cs < 2 ^ 32 → Every (λ w. WithinFact p w.1) (weights sequent cs)
     → int_wrap w128 (total (weights sequent cs) p) ≡ total (weights sequent cs) p
 total_fits p sequent cs given few within =
     let ws = weights sequent cs in
     int_wrap_fits w128 (total ws p) (fits_signed_from_abs w128 (total ws p)
-        (below_wrap (unsigned_abs (total ws p)) (length ws) (total_size p ws (small_weights sequent 0 cs given) within) (lt_of_le (length ws) _ (2 ^ 32) (few_weights sequent 0 cs) few)))
+    (below_wrap (unsigned_abs (total ws p)) (length ws) (total_size p ws (small_weights sequent 0 cs given) within) (lt_of_le (length ws) _ (2 ^ 32) (few_weights sequent 0 cs) few)))
   where
     lt_of_le : (a b c : ℕ) → a ≤ b → b < c → a < c
     lt_of_le a b c h k = omega arith
@@ -193,13 +196,13 @@ bounded_every : (ws : List (ℤ × Fact)) → ((p : Part) → Every (λ w. Withi
 bounded_every [] h = tt
 bounded_every (w ∷ ws) h = (bounded_from w.1 (λ p. (h p).0), bounded_every ws (λ p. (h p).1))
 
-given_every : (cs : List ℤ) → list_all (λ c. nat_le (unsigned_abs c) most_coefficient) cs ≡ true → Every (λ c. unsigned_abs c ≤ most_coefficient) cs
+given_every : (cs : List ℤ) → list_all (λ c. nat_le (unsigned_abs c) MOST_COEFFICIENT) cs ≡ true → Every (λ c. unsigned_abs c ≤ MOST_COEFFICIENT) cs
 given_every [] e = tt
-given_every (c ∷ cs) e = let r = and_parts (nat_le (unsigned_abs c) most_coefficient) (list_all (λ c. nat_le (unsigned_abs c) most_coefficient) cs) e in (leb-true (unsigned_abs c) most_coefficient r.0, given_every cs r.1)
+given_every (c ∷ cs) e = let r = and_parts (nat_le (unsigned_abs c) MOST_COEFFICIENT) (list_all (λ c. nat_le (unsigned_abs c) MOST_COEFFICIENT) cs) e in (leb-true (unsigned_abs c) MOST_COEFFICIENT r.0, given_every cs r.1)
 
-every_given : (cs : List ℤ) → Every (λ c. unsigned_abs c ≤ most_coefficient) cs → list_all (λ c. nat_le (unsigned_abs c) most_coefficient) cs ≡ true
+every_given : (cs : List ℤ) → Every (λ c. unsigned_abs c ≤ MOST_COEFFICIENT) cs → list_all (λ c. nat_le (unsigned_abs c) MOST_COEFFICIENT) cs ≡ true
 every_given [] h = refl
-every_given (c ∷ cs) h = and_from (nat_le (unsigned_abs c) most_coefficient) _ (le-leb (unsigned_abs c) most_coefficient h.0) (every_given cs h.1)
+every_given (c ∷ cs) h = and_from (nat_le (unsigned_abs c) MOST_COEFFICIENT) _ (le-leb (unsigned_abs c) MOST_COEFFICIENT h.0) (every_given cs h.1)
 
 -- ---- the answer
 
@@ -212,7 +215,7 @@ right_from ws p e =
     (fit_every p ws r.0, (Decides-int_eq (int_wrap w128 (total ws p)) (pos 0)).0 r.1)
 
 -- at every atom: the sum is 0, and all is within the bounds
-each_atom : (sequent : Sequent) (cs : List ℤ) (given : Every (λ c. unsigned_abs c ≤ most_coefficient) cs) (few : count_by (λ c. not (is_zero c)) cs < 2 ^ 32)
+each_atom : (sequent : Sequent) (cs : List ℤ) (given : Every (λ c. unsigned_abs c ≤ MOST_COEFFICIENT) cs) (few : count_by (λ c. not (is_zero c)) cs < 2 ^ 32)
     → list_all (is_atom_right (weights sequent cs)) (all_atoms (weights sequent cs)) ≡ true → (u : Term) → (total (weights sequent cs) (atom u) ≡ pos 0) × Every (λ w. WithinFact (atom u) w.1) (weights sequent cs)
 each_atom sequent cs given few e u = by_test (list_any (λ t. same_part (atom t) (atom u)) (all_atoms (weights sequent cs))) refl
   where
@@ -233,8 +236,8 @@ closes_from sequent cs e =
     let ws = weights sequent cs in
     let r = and_parts (keeps_rules sequent cs && is_contradiction ws) (list_all (is_atom_right ws) (all_atoms ws)) e in
     let q = and_parts (keeps_rules sequent cs) (is_contradiction ws) r.0 in
-    let k = and_parts (each_may_weigh sequent 0 cs && list_all (λ c. nat_le (unsigned_abs c) most_coefficient) cs) (nat_lt (count_by (λ c. not (is_zero c)) cs) (2 ^ 32)) q.0 in
-    let a = and_parts (each_may_weigh sequent 0 cs) (list_all (λ c. nat_le (unsigned_abs c) most_coefficient) cs) k.0 in
+    let k = and_parts (each_may_weigh sequent 0 cs && list_all (λ c. nat_le (unsigned_abs c) MOST_COEFFICIENT) cs) (nat_lt (count_by (λ c. not (is_zero c)) cs) (2 ^ 32)) q.0 in
+    let a = and_parts (each_may_weigh sequent 0 cs) (list_all (λ c. nat_le (unsigned_abs c) MOST_COEFFICIENT) cs) k.0 in
     let c = and_parts (fit_at ws constant) (int_lt (pos 0) (int_wrap w128 (total ws constant))) q.1 in
     let given = given_every cs a.1 in
     let few = ltb-true (count_by (λ c. not (is_zero c)) cs) (2 ^ 32) k.1 in
@@ -242,7 +245,7 @@ closes_from sequent cs e =
     let atoms = each_atom sequent cs given few r.1 in
     record {
       allowed = a.0;
-      given = every_all (λ c. unsigned_abs c ≤ most_coefficient) cs given;
+      given = every_all (λ c. unsigned_abs c ≤ MOST_COEFFICIENT) cs given;
       few = few;
       bounded = every_all (λ w. IsBounded w.1) ws (bounded_every ws (each_part ws at_constant (λ u. (atoms u).1)));
       no_atom = λ u. (atoms u).0;
@@ -256,19 +259,19 @@ closes_from sequent cs e =
 pub closes_to : (sequent : Sequent) (cs : List ℤ) → Closes sequent cs → is_closed sequent cs ≡ true
 closes_to sequent cs h =
     let ws = weights sequent cs in
-    let given = all_every (λ c. unsigned_abs c ≤ most_coefficient) cs h.given in
+    let given = all_every (λ c. unsigned_abs c ≤ MOST_COEFFICIENT) cs h.given in
     let bounded = all_every (λ w. IsBounded w.1) ws h.bounded in
     let within = λ (p : Part). all_within p ws bounded in
     let fits = λ (p : Part). total_fits p sequent cs given h.few (within p) in
     and_from (keeps_rules sequent cs && is_contradiction ws) (list_all (is_atom_right ws) (all_atoms ws))
-        (and_from (keeps_rules sequent cs) (is_contradiction ws)
-            (and_from (each_may_weigh sequent 0 cs && list_all (λ c. nat_le (unsigned_abs c) most_coefficient) cs) (nat_lt (count_by (λ c. not (is_zero c)) cs) (2 ^ 32))
-                (and_from (each_may_weigh sequent 0 cs) (list_all (λ c. nat_le (unsigned_abs c) most_coefficient) cs) h.allowed (every_given cs given))
-                (lt-ltb (count_by (λ c. not (is_zero c)) cs) (2 ^ 32) h.few))
-            (and_from (fit_at ws constant) (int_lt (pos 0) (int_wrap w128 (total ws constant))) (every_fits constant ws bounded)
-                (ap (int_lt (pos 0)) (fits constant) ∙ positive_to (total ws constant) h.positive)))
-        (all_right (all_atoms ws) (λ u. and_from (fit_at ws (atom u)) (int_eq (int_wrap w128 (total ws (atom u))) (pos 0)) (every_fits (atom u) ws bounded)
-            (ap (λ z. int_eq z (pos 0)) (fits (atom u) ∙ h.no_atom u))))
+    (and_from (keeps_rules sequent cs) (is_contradiction ws)
+    (and_from (each_may_weigh sequent 0 cs && list_all (λ c. nat_le (unsigned_abs c) MOST_COEFFICIENT) cs) (nat_lt (count_by (λ c. not (is_zero c)) cs) (2 ^ 32))
+    (and_from (each_may_weigh sequent 0 cs) (list_all (λ c. nat_le (unsigned_abs c) MOST_COEFFICIENT) cs) h.allowed (every_given cs given))
+    (lt-ltb (count_by (λ c. not (is_zero c)) cs) (2 ^ 32) h.few))
+    (and_from (fit_at ws constant) (int_lt (pos 0) (int_wrap w128 (total ws constant))) (every_fits constant ws bounded)
+    (ap (int_lt (pos 0)) (fits constant) ∙ positive_to (total ws constant) h.positive)))
+    (all_right (all_atoms ws) (λ u. and_from (fit_at ws (atom u)) (int_eq (int_wrap w128 (total ws (atom u))) (pos 0)) (every_fits (atom u) ws bounded)
+    (ap (λ z. int_eq z (pos 0)) (fits (atom u) ∙ h.no_atom u))))
   where
     all_within : (p : Part) (ws : List (ℤ × Fact)) → Every (λ w. IsBounded w.1) ws → Every (λ w. WithinFact p w.1) ws
     all_within p [] b = tt

@@ -1,14 +1,14 @@
 -- What is added to lanes.
-use Rattle.std.proofs.Common.{◌≡◌, ◌+◌, ◌<◌, ℕ, ℤ, pos, ◌+ℤ◌, ◌-ℤ◌, ◌*ℤ◌, neg_ℤ, List, [], ◌∷◌, map, Bool, true, false, if◌then◌else◌, refl, sym, ◌∙◌, ap, arith}
+use Rattle.std.proofs.Common.{◌≡◌, ℤ, pos, ◌+ℤ◌, ◌-ℤ◌, ◌*ℤ◌, neg_ℤ, List, [], ◌∷◌, map, Bool, true, false, if◌then◌else◌, refl, sym, ◌∙◌, ap}
 use Rattle.std.specs.Int.{int_wrap}
-use Rattle.std.proofs.lemmas.Int.{ints, int_wrap-add_left, int_wrap-add_right, int_wrap-mul_left}
+use Rattle.std.proofs.lemmas.Int.{int_wrap-add_left, int_wrap-add_right, int_wrap-mul_left}
 use Rattle.std.proofs.Math.IntN.{one, *ℤ-zero, *ℤ-one, +ℤ_assoc}
 use mir.Syntax.{w128}
 use Rattle.term_core.specs.declared.term.Term.{Term}
 use Rattle.linear_facts.specs.declared.lanes.Lane.{Lane}
-use Rattle.linear_facts.specs.Forms.{Shape, literal, sum, difference, opposite, multiple, whole, shape_of, within_shape, Part, atom, constant}
+use Rattle.linear_facts.specs.Forms.{Shape, literal, sum, difference, opposite, multiple, whole, shape_of, within_shape, atom, constant}
 use Rattle.linear_facts.specs.Working.{is_lane_of, part_mark, seen, seen_by, seen_in, with_more}
-use Rattle.linear_facts.proofs.Integers.{times-sum, times-difference, times-opposite, opposite-times, times-times}
+use Rattle.linear_facts.proofs.Integers.{times-sum, times-opposite, opposite-times, times-times}
 use Rattle.linear_facts.proofs.ShapeLaws.{over_at}
 
 pub seen_is : (lane : Lane) (t : Term) (s : Shape Term) → shape_of t ≡ s → seen_in lane t ≡ seen_by lane t (within_shape (seen_in lane) s)
@@ -113,6 +113,6 @@ added_fact w v u extra a b ks xs ys zs ev eu h k l =
     l ∙ ((λ i. map (λ lane. with_more (seen lane constant (eu i)) lane) ((k ∙ (λ i. map (with_form (ev i) b) (h i))) i))
     ∙ (ap (map (λ lane. with_more (seen lane constant u') lane)) (mapped_twice (with_form w a) (with_form v' b) both (λ lane. refl) ks)
     ∙ mapped_twice both (λ lane. with_more (seen lane constant u') lane) (λ lane. with_more (w *ℤ (seen_in lane a -ℤ seen_in lane b +ℤ seen lane constant extra)) lane) (λ lane.
-        with_literal w extra (both lane) ∙ (ap (with_more (w *ℤ seen lane constant extra)) (with_difference w a b lane)
-        ∙ (more_twice (w *ℤ (seen_in lane a -ℤ seen_in lane b)) (w *ℤ seen lane constant extra) lane
-        ∙ ap (λ x. with_more x lane) (sym (times-sum w (seen_in lane a -ℤ seen_in lane b) (seen lane constant extra)))))) ks))
+    with_literal w extra (both lane) ∙ (ap (with_more (w *ℤ seen lane constant extra)) (with_difference w a b lane)
+    ∙ (more_twice (w *ℤ (seen_in lane a -ℤ seen_in lane b)) (w *ℤ seen lane constant extra) lane
+    ∙ ap (λ x. with_more x lane) (sym (times-sum w (seen_in lane a -ℤ seen_in lane b) (seen lane constant extra)))))) ks))

@@ -1,5 +1,5 @@
 -- Numbers of many lanes at once.
-use Rattle.std.proofs.Common.{◌≡◌, ℕ, suc, ◌+◌, ◌<◌, ◌≤◌, ℤ, pos, ◌+ℤ◌, ◌-ℤ◌, ◌*ℤ◌, List, [], ◌∷◌, ◌++◌, map, length, drop, get_or, Bool, true, false, ◌&&◌, Option, Some, None, refl, sym, ◌∙◌, ap, subst, arith, append_assoc, drop-drop}
+use Rattle.std.proofs.Common.{◌≡◌, ℕ, ◌+◌, ◌<◌, ℤ, pos, ◌+ℤ◌, ◌-ℤ◌, ◌*ℤ◌, List, [], ◌∷◌, ◌++◌, map, length, drop, get_or, Bool, true, false, ◌&&◌, Option, Some, None, refl, sym, ◌∙◌, ap, append_assoc, drop-drop}
 use Rattle.std.specs.Prelude.{is_some}
 use Rattle.std.specs.Option.{option_map, option_and_then}
 use Rattle.std.specs.List.{list_all}
@@ -22,8 +22,8 @@ pub next_pair : (f : ℤ → ℤ → ℤ) (xs ys zs : List ℤ) (i : ℕ) (z : �
     → option_map (λ r. (zs ++ z ∷ []) ++ r) (small_pairs f (drop (i + 1) xs) (drop (i + 1) ys)) ≡ option_map (λ r. zs ++ r) (small_pairs f (drop i xs) (drop i ys))
 next_pair f xs ys zs i z l e = sym (
     ap (option_map (λ r. zs ++ r)) (at_drop_more (λ xs. small_pairs f xs (drop i ys)) xs i (pos 0) l
-        ∙ (ap (option_and_then (λ z. option_map (λ zs. z ∷ zs) (small_pairs f (drop (i + 1) xs) (drop 1 (drop i ys))))) e
-        ∙ ap (λ ys. option_map (λ zs. z ∷ zs) (small_pairs f (drop (i + 1) xs) ys)) (drop_one i ys)))
+    ∙ (ap (option_and_then (λ z. option_map (λ zs. z ∷ zs) (small_pairs f (drop (i + 1) xs) (drop 1 (drop i ys))))) e
+    ∙ ap (λ ys. option_map (λ zs. z ∷ zs) (small_pairs f (drop (i + 1) xs) ys)) (drop_one i ys)))
     ∙ mapped-append zs z (small_pairs f (drop (i + 1) xs) (drop (i + 1) ys)))
 
 pub difference_at : (x : ℤ) (ys es : List ℤ) (i : ℕ) → i < length ys → i < length es

@@ -1,12 +1,12 @@
 -- Functions over shapes, and induction on how a term is taken apart.
-use Rattle.std.proofs.Common.{◌≡◌, ℕ, ℤ, List, [], ◌∷◌, map, Bool, Option, Some, None, refl, sym, ◌∙◌, ap, subst}
+use Rattle.std.proofs.Common.{◌≡◌, ℕ, ℤ, List, [], ◌∷◌, map, Option, Some, None, refl, sym, ◌∙◌, ap, subst}
 use Rattle.term_core.specs.declared.term.Oper.{Oper}
 use Rattle.term_core.specs.declared.term.Oper.TheVariants as oper
 use Rattle.term_core.specs.declared.term.Term.{Term}
 use Rattle.term_core.specs.declared.term.Term.TheOpen.{Term-F}
 use Rattle.term_core.specs.declared.term.Term.TheViews.{out-Term, roll-Term, roll-out-Term, out-roll-Term}
-use Rattle.term_core.specs.declared.term.Term.TheFolds.{para-Term, para-roll-Term, map-Term}
-use Rattle.term_core.specs.Terms.{int, truth, var, op, Quantifier, for_all, exists, quantify, Each, by_cases}
+use Rattle.term_core.specs.declared.term.Term.TheFolds.{para-roll-Term, map-Term}
+use Rattle.term_core.specs.Terms.{Quantifier, for_all, exists, quantify, Each, by_cases}
 use Rattle.linear_facts.specs.Forms.{Shape, literal, sum, difference, opposite, multiple, whole, product, applied, shaped, literal_of, shape_of, within_shape, over_shapes}
 
 -- ---- the equation of a function over shapes

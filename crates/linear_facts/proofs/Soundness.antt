@@ -1,20 +1,20 @@
 -- A sequent that coefficients close is valid.
-use Rattle.std.proofs.Common.{◌≡◌, ℕ, zero, suc, ◌+◌, ◌-◌, ◌≤◌, ℤ, pos, ◌+ℤ◌, ◌*ℤ◌, ◌≤ℤ◌, ◌<ℤ◌, List, [], ◌∷◌, ◌++◌, Bool, true, false, not, ◌&&◌, ◌||◌, if◌then◌else◌, Option, Some, None, refl, sym, ◌∙◌, ap, subst, arith, max}
-use Rattle.std.specs.Prelude.{int_le, slice_get}
-use Rattle.std.specs.Option.{option_and_then}
+use Rattle.std.proofs.Common.{◌≡◌, ℕ, zero, suc, ◌+◌, ◌-◌, ◌≤◌, ℤ, pos, ◌+ℤ◌, ◌*ℤ◌, ◌≤ℤ◌, ◌<ℤ◌, List, [], ◌∷◌, Bool, true, false, not, if◌then◌else◌, Option, Some, None, refl, sym, ◌∙◌, ap, subst, arith}
+use Rattle.std.specs.Prelude.{slice_get}
 use Rattle.std.proofs.lemmas.Bool.{and_parts}
+use Rattle.std.proofs.lemmas.Option.{same_Some}
 use Rattle.std.proofs.lemmas.Int.{ints}
 use Rattle.term_core.specs.declared.term.Term.{Term}
 use Rattle.term_core.specs.declared.sequent.Sequent.{Sequent}
 use Rattle.term_core.specs.Operations.{Tables, is_zero}
 use Rattle.term_core.specs.Evaluation.{Meaning, Calls, tables_of, calls, value}
 use Rattle.term_core.specs.Validity.{Holds, AllHold, Valid}
-use Rattle.term_core.specs.Values.{Value, a_truth, as_truth, Env}
+use Rattle.term_core.specs.Values.{Value, a_truth, Env}
 use Rattle.term_laws.specs.Settled.{Settled}
 use Rattle.term_laws.proofs.Meanings.{parts_of}
 use Rattle.term_laws.proofs.ValueLaws.{value_grows}
 use Rattle.linear_facts.specs.Closing.{may_weigh, each_may_weigh, weighed, weights_from, weights, total, Closes}
-use Rattle.linear_facts.specs.Facts.{Fact, form_of, is_equation, denied, bound, fact_of, against, hypothesis_at, fact_at}
+use Rattle.linear_facts.specs.Facts.{Fact, form_of, denied, bound, fact_of, against, hypothesis_at, fact_at}
 use Rattle.linear_facts.specs.Forms.{constant}
 use Rattle.linear_facts.proofs.BoundLaws.{every_append}
 use Rattle.linear_facts.proofs.ShapeLaws.{Every}
@@ -39,20 +39,11 @@ every_at P [] i t h e = absurd cc
 every_at P (u ∷ us) zero t h e = subst P (let f : Some u ≡ Some t = e in cc) h.0
 every_at P (u ∷ us) (suc i) t h e = every_at P us i t h.1 e
 
-some_is : (f g : Fact) → Some f ≡ Some g → f ≡ g
-some_is f g e = cc
-
 contradiction : (s v k : ℤ) → s ≡ v +ℤ k → v ≡ pos 0 → s ≤ℤ pos 0 → pos 0 <ℤ k → ⊥
 contradiction s v k e z h p = omega (arith, ints)
 
 sum_below : (a b : ℤ) → a ≤ℤ pos 0 → b ≤ℤ pos 0 → (a +ℤ b) ≤ℤ pos 0
 sum_below a b h k = omega (arith, ints)
-
-none_below : pos 0 ≤ℤ pos 0
-none_below = omega (arith, ints)
-
-rearranged : (a b c d : ℤ) → (a +ℤ b) +ℤ (c +ℤ d) ≡ (a +ℤ c) +ℤ (b +ℤ d)
-rearranged a b c d = omega (arith, ints)
 
 module _ (m : Tables) (c : Calls) (env : Env) where
   -- a fact that is true of values that are there
@@ -89,13 +80,13 @@ module _ (m : Tables) (c : Calls) (env : Env) where
   sum_is (w ∷ ws) h =
       let f = truths.number_at m c env in
       (λ i. (ap (λ d. w.0 *ℤ d) (truths.distance_is m c env w.1 h.0.1)
-          ∙ (times-sum w.0 (valued f (summands_in w.1)) (form_of w.1 constant) ∙ ap (λ z. z +ℤ w.0 *ℤ form_of w.1 constant) (sym (valued-scaled w.0 f (summands_in w.1))))) i +ℤ sum_is ws h.1 i)
-      ∙ (rearranged (valued f (scaled w.0 (summands_in w.1))) (w.0 *ℤ form_of w.1 constant) (valued f (summands_of ws)) (total ws constant)
+      ∙ (times-sum w.0 (valued f (summands_in w.1)) (form_of w.1 constant) ∙ ap (λ z. z +ℤ w.0 *ℤ form_of w.1 constant) (sym (valued-scaled w.0 f (summands_in w.1))))) i +ℤ sum_is ws h.1 i)
+      ∙ (truths.rearranged (valued f (scaled w.0 (summands_in w.1))) (w.0 *ℤ form_of w.1 constant) (valued f (summands_of ws)) (total ws constant)
       ∙ ap (λ z. z +ℤ (w.0 *ℤ form_of w.1 constant +ℤ total ws constant)) (sym (valued-append f (scaled w.0 (summands_in w.1)) (summands_of ws))))
 
   sum_nothing : (ws : List (ℤ × Fact)) → Every Adds ws → sum_of ws ≤ℤ pos 0
   unfolding sum_of
-  sum_nothing [] h = none_below
+  sum_nothing [] h = truths.none_above
   sum_nothing (w ∷ ws) h = sum_below (w.0 *ℤ truths.distance m c env w.1) (sum_of ws) h.0.0 (sum_nothing ws h.1)
 
   -- not all facts can be true
@@ -105,7 +96,7 @@ module _ (m : Tables) (c : Calls) (env : Env) where
       let f = truths.number_at m c env in
       let adds = adds_each sequent 0 cs closes.allowed h in
       contradiction (sum_of ws) (valued f (summands_of ws)) (total ws constant) (sum_is ws adds)
-          (all_vanish f (summands_of ws) (λ u. number_total u ws ∙ closes.no_atom u)) (sum_nothing ws adds) closes.positive
+      (all_vanish f (summands_of ws) (λ u. number_total u ws ∙ closes.no_atom u)) (sum_nothing ws adds) closes.positive
 
   -- so the goal is true where the hypotheses are
   goal_true : (sequent : Sequent) (cs : List ℤ) → Closes sequent cs → Every (λ t. truths.has m c env t (a_truth true)) sequent.hyps → (v : Value) → truths.has m c env sequent.goal v → v ≡ a_truth true
@@ -124,7 +115,7 @@ module _ (m : Tables) (c : Calls) (env : Env) where
           → against sequent.goal ≡ Some fact → v ≡ a_truth true
       by_truth true g fact t is d f = is ∙ ap a_truth t
       by_truth false g fact t is d f = absurd (impossible sequent cs closes (with_first (λ other k.
-          subst IsTrueFact (some_is fact other (sym f ∙ k)) (sym d.0 ∙ ap not t, d.1))))
+          subst IsTrueFact (same_Some fact other (sym f ∙ k)) (sym d.0 ∙ ap not t, d.1))))
 
       by_fact : (o : Option Fact) → against sequent.goal ≡ o → v ≡ a_truth true
       by_fact None f = absurd (impossible sequent cs closes (with_first (λ fact k. absurd (let n : None ≡ Some fact = sym f ∙ k in cc))))

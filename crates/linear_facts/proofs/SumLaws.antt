@@ -1,5 +1,5 @@
 -- What lanes hold in the end: the weighted sums.
-use Rattle.std.proofs.Common.{◌≡◌, ℕ, ℤ, pos, negsuc, ◌+ℤ◌, ◌-ℤ◌, ◌*ℤ◌, neg_ℤ, List, [], ◌∷◌, map, Bool, true, false, ◌&&◌, ◌||◌, if◌then◌else◌, Option, Some, None, eqb, eq-eqb, refl, sym, ◌∙◌, ap, arith, length, get_or}
+use Rattle.std.proofs.Common.{◌≡◌, ℤ, pos, negsuc, ◌+ℤ◌, ◌-ℤ◌, ◌*ℤ◌, neg_ℤ, List, [], ◌∷◌, map, Bool, true, false, ◌&&◌, ◌||◌, if◌then◌else◌, Option, Some, None, eqb, eq-eqb, refl, sym, ◌∙◌, ap, arith, length, get_or}
 use Rattle.std.specs.Prelude.{is_some}
 use Rattle.std.specs.Option.{option_map, option_and_then}
 use Rattle.std.specs.Int.{int_wrap}
@@ -19,9 +19,9 @@ use Rattle.linear_facts.specs.declared.lanes.Lane.{Lane}
 use Rattle.linear_facts.specs.declared.lanes.Part as parts
 use Rattle.linear_facts.specs.Closing.{total}
 use Rattle.linear_facts.specs.Facts.{Fact, at_most, below, equal_to, form_of}
-use Rattle.linear_facts.specs.Forms.{Shape, literal, sum, difference, opposite, multiple, whole, shape_of, within_shape, over_shapes, Part, atom, constant, Form, number, once, form_by, form, same_term}
+use Rattle.linear_facts.specs.Forms.{Shape, literal, sum, difference, opposite, multiple, whole, shape_of, within_shape, Part, atom, constant, number, once, form_by, form}
 use Rattle.linear_facts.specs.Views.{part_behind}
-use Rattle.linear_facts.specs.Working.{left_of, right_of, extra_of, same_part, part_mark, is_lane_of, seen, seen_by, seen_in, with_more, with_fact, with_weights, small, small_of, number_by, number_at, fact_size, fact_number_at, small_lists, part_numbers, scaled_numbers, lane_numbers_by, lane_numbers, differences_fit, each_fits, fits_at, fits_each, fits_parts, fit_at, is_right, IsFresh}
+use Rattle.linear_facts.specs.Working.{left_of, right_of, extra_of, same_part, part_mark, is_lane_of, seen, seen_by, seen_in, with_fact, with_weights, small, small_of, number_by, number_at, fact_size, fact_number_at, small_lists, part_numbers, scaled_numbers, lane_numbers_by, lane_numbers, differences_fit, each_fits, fits_each, fits_parts, fit_at, is_right, IsFresh}
 use Rattle.term_core.specs.Options.{all_some}
 use Rattle.linear_facts.proofs.Integers.{minus_one}
 use Rattle.linear_facts.proofs.NumberLaws.{all_there, pairs_of_all, scaled_all, all_fit}
@@ -149,7 +149,7 @@ pub each_fits_is : (lanes : List Lane) → Every IsMarked lanes → (fact : Fact
 each_fits_is [] m fact = refl
 each_fits_is (lane ∷ lanes) m fact =
     (λ i. differences_fit (lane_numbers_are lane lanes m (left_of fact) i) (lane_numbers_are lane lanes m (right_of fact) i)
-        ((given_parts lane lanes constant (Some (extra_of fact)) number sees_number m ∙ all_there (λ lane. number (extra_of fact) (part_of lane)) (lane ∷ lanes)) i))
+    ((given_parts lane lanes constant (Some (extra_of fact)) number sees_number m ∙ all_there (λ lane. number (extra_of fact) (part_of lane)) (lane ∷ lanes)) i))
     ∙ all_fit (λ lane. number_at (part_of lane) (left_of fact)) (λ lane. number_at (part_of lane) (right_of fact)) (λ lane. number (extra_of fact) (part_of lane)) (lane ∷ lanes)
 
 -- lanes stay marked
@@ -203,7 +203,7 @@ fit_parts ws vs (lane ∷ lanes) =
     let here = λ (w : ℤ × Fact). is_some (fact_size w.1) || is_some (fact_number_at (part_of (with_weights vs lane)) w.1) in
     let there = λ (w : ℤ × Fact). fits_parts (map (with_weights vs) lanes) w.1 in
     all_alike (λ w. fits_parts (map (with_weights vs) (lane ∷ lanes)) w.1) (λ w. here w && there w)
-        (λ w. or_and (is_some (fact_size w.1)) (is_some (fact_number_at (part_of (with_weights vs lane)) w.1)) (list_all (λ lane. is_some (fact_number_at (part_of lane) w.1)) (map (with_weights vs) lanes))) ws
+    (λ w. or_and (is_some (fact_size w.1)) (is_some (fact_number_at (part_of (with_weights vs lane)) w.1)) (list_all (λ lane. is_some (fact_number_at (part_of lane) w.1)) (map (with_weights vs) lanes))) ws
     ∙ (all_both here there ws ∙ (λ i. fit_at ws (same_lane vs lane i) && fit_parts ws vs lanes i))
 
 pub fit_lanes : (ws vs : List (ℤ × Fact)) (lanes : List Lane) → All IsFresh lanes → list_all (λ w. fits_each (map (with_weights vs) lanes) w.1) ws ≡ list_all (λ lane. fit_at ws (part_of lane)) lanes

@@ -1,16 +1,16 @@
 -- Forms as lists of numbers with atoms: where each atom's numbers add up to 0, the sum under any numbers for atoms is 0.
-use Rattle.std.proofs.Common.{◌≡◌, ℕ, zero, suc, ◌≤◌, ℤ, pos, ◌+ℤ◌, ◌-ℤ◌, ◌*ℤ◌, neg_ℤ, List, [], ◌∷◌, ◌++◌, length, Bool, true, false, if◌then◌else◌, refl, sym, ◌∙◌, ap, subst, arith}
+use Rattle.std.proofs.Common.{◌≡◌, ℕ, zero, suc, ◌≤◌, ℤ, pos, ◌+ℤ◌, ◌-ℤ◌, ◌*ℤ◌, neg_ℤ, List, [], ◌∷◌, ◌++◌, length, Bool, true, false, if◌then◌else◌, refl, sym, ◌∙◌, ap, arith}
 use Rattle.std.proofs.lemmas.Int.{ints}
-use Rattle.std.proofs.Math.IntN.{one, *ℤ-zero, *ℤ-one, *ℤ_comm, zero-*ℤ, +ℤ_idr}
+use Rattle.std.proofs.Math.IntN.{*ℤ-zero, zero-*ℤ, +ℤ_idr}
 use Rattle.term_core.specs.contracts.term.Term as term
 use Rattle.term_core.specs.declared.term.Term.{Term}
 use Rattle.base_kit.specs.Sameness.{same_decides}
 use Rattle.linear_facts.specs.Closing.{total}
 use Rattle.linear_facts.specs.Facts.{Fact, form_of}
-use Rattle.linear_facts.specs.Forms.{Shape, literal, sum, difference, opposite, multiple, whole, shape_of, within_shape, over_shapes, Part, atom, constant, number, once, form_by, form, same_term}
-use Rattle.linear_facts.specs.Working.{left_of, right_of, extra_of}
-use Rattle.linear_facts.proofs.Integers.{minus_one, times-sum, times-opposite, times-times, sum-times}
-use Rattle.linear_facts.proofs.ShapeLaws.{EachPart, over_is, over_at, by_shape}
+use Rattle.linear_facts.specs.Forms.{Shape, literal, sum, difference, opposite, multiple, whole, shape_of, within_shape, over_shapes, atom, form_by, form, same_term}
+use Rattle.linear_facts.specs.Working.{left_of, right_of}
+use Rattle.linear_facts.proofs.Integers.{minus_one, times-sum, times-times, sum-times}
+use Rattle.linear_facts.proofs.ShapeLaws.{EachPart, over_is, by_shape}
 use Rattle.linear_facts.proofs.SumLaws.{form_is, fact_form}
 
 abbrev pub Summands : Type 0

@@ -1,9 +1,10 @@
 -- What forms and facts say of values, at any bound on equations.
-use Rattle.std.proofs.Common.{◌≡◌, ◌⊎◌, ℕ, ℤ, pos, negsuc, ◌+ℤ◌, ◌-ℤ◌, ◌*ℤ◌, ◌≤ℤ◌, ◌<ℤ◌, neg_ℤ, List, [], ◌∷◌, ◌++◌, map, Bool, true, false, not, ◌&&◌, if◌then◌else◌, Option, Some, None, refl, sym, ◌∙◌, ap, subst, arith, inl, inr, zero, suc, ◌*◌, ◌||◌}
+use Rattle.std.proofs.Common.{◌≡◌, ◌⊎◌, ℕ, ℤ, pos, negsuc, ◌+ℤ◌, ◌-ℤ◌, ◌*ℤ◌, ◌≤ℤ◌, neg_ℤ, List, [], ◌∷◌, Bool, true, false, not, ◌&&◌, if◌then◌else◌, Option, Some, None, refl, sym, ◌∙◌, ap, subst, arith, inl, inr, zero, suc, ◌*◌, ◌||◌}
 use Rattle.std.specs.Prelude.{int_le, int_lt}
-use Rattle.std.specs.Option.{option_and_then, option_map, option_or}
+use Rattle.std.specs.Option.{option_and_then, option_or}
 use Rattle.std.specs.Ordering.{int_eq}
 use Rattle.std.proofs.lemmas.Bool.Decides.{Decides-int_eq}
+use Rattle.std.proofs.lemmas.Option.{same_Some}
 use Rattle.std.proofs.lemmas.Int.{ints}
 use Rattle.std.proofs.Math.IntN.{one, *ℤ-zero, *ℤ-one, *ℤ_comm, +ℤ_idl, +ℤ_idr, +ℤ_assoc, pos-*ℤ-pos}
 use Rattle.term_core.specs.declared.sequent.Var.{Var}
@@ -11,17 +12,17 @@ use Rattle.term_core.specs.declared.term.Oper.{Oper}
 use Rattle.term_core.specs.declared.term.Oper.TheVariants as oper
 use Rattle.term_core.specs.declared.term.Term.{Term}
 use Rattle.term_core.specs.declared.term.Term.TheOpen.{Term-F}
-use Rattle.term_core.specs.declared.term.Term.TheViews.{out-Term, roll-Term, roll-out-Term, out-roll-Term}
+use Rattle.term_core.specs.declared.term.Term.TheViews.{out-Term, roll-Term, roll-out-Term}
 use Rattle.term_core.specs.Options.{all_some}
 use Rattle.term_core.specs.Terms.{int, op}
 use Rattle.term_core.specs.Operations.{Tables, outcome}
 use Rattle.term_core.specs.Values.{Value, a_number, a_truth, a_list, a_record, a_made, as_number, as_truth, same_value, Env}
-use Rattle.term_core.specs.Evaluation.{Calls, value_by, in_env, applied}
+use Rattle.term_core.specs.Evaluation.{Calls, value_by, applied}
 use Rattle.term_laws.proofs.ValueLaws.{value_op, value_int}
-use Rattle.term_laws.proofs.Meanings.{parts_of, mapped_parts}
+use Rattle.term_laws.proofs.Meanings.{parts_of}
 use Rattle.linear_facts.specs.Facts.{Fact, at_most, below, equal_to, form_of, is_equation, denied, compared, comparison_in, comparison, bound_by, bound_in, bound, may_be_number, equation_by, equation_in, equation, fact_of}
 use Rattle.linear_facts.specs.Working.{left_of, right_of, extra_of}
-use Rattle.linear_facts.specs.Forms.{Shape, literal, sum, difference, opposite, multiple, whole, product, applied as shaped_by, shaped, literal_of, number_in, shape_of, within_shape, Part, atom, constant, number, once, form_by, form}
+use Rattle.linear_facts.specs.Forms.{Shape, literal, sum, difference, opposite, multiple, whole, product, applied as shaped_by, shaped, literal_of, number_in, shape_of, within_shape, constant, form_by, form}
 use Rattle.linear_facts.proofs.Integers.{minus_one, times-sum, times-opposite}
 use Rattle.linear_facts.proofs.ShapeLaws.{EachPart, over_is, by_shape}
 use Rattle.linear_facts.proofs.SumLaws.{form_is, fact_form}
@@ -100,11 +101,8 @@ abbrev pub number_given : Option Value → ℤ
 number_given None = pos 0
 number_given (Some v) = as_number v
 
-some_is : {A : Type 0} (x y : A) → Some x ≡ Some y → x ≡ y
-some_is x y e = cc
-
 -- a sum, and what else stands beside it
-rearranged : (a b c d : ℤ) → (a +ℤ b) +ℤ (c +ℤ d) ≡ (a +ℤ c) +ℤ (b +ℤ d)
+pub rearranged : (a b c d : ℤ) → (a +ℤ b) +ℤ (c +ℤ d) ≡ (a +ℤ c) +ℤ (b +ℤ d)
 rearranged a b c d = omega (arith, ints)
 
 rearranged_less : (a b c d : ℤ) → (a +ℤ b) -ℤ (c +ℤ d) ≡ (a +ℤ neg_ℤ c) +ℤ (b -ℤ d)
@@ -135,7 +133,7 @@ lt_distance a b e = grind (arith, ints)
 equal_distance : (a b : ℤ) → a ≡ b → a -ℤ b +ℤ pos 0 ≡ pos 0
 equal_distance a b e = omega (arith, ints)
 
-none_above : pos 0 ≤ℤ pos 0
+pub none_above : pos 0 ≤ℤ pos 0
 none_above = omega (arith, ints)
 
 below_is : (d : ℤ) → d ≤ℤ pos 0 → (k : ℕ) × (d ≡ neg_ℤ (pos k))
@@ -188,7 +186,7 @@ module _ (m : Tables) (c : Calls) (env : Env) where
   one_value o a v plain e = one_part (value_by m c a env) (outcome m o) v (sym (plain (value_by m c a env ∷ [])) ∙ (sym (value_op m c o (a ∷ []) env) ∙ e))
 
   literal_value : (n : ℤ) (v : Value) → has (int n) v → as_number v ≡ n
-  literal_value n v e = ap as_number (some_is v (a_number n) (sym e ∙ value_int m c n env))
+  literal_value n v e = ap as_number (same_Some v (a_number n) (sym e ∙ value_int m c n env))
 
   -- ---- a term's number is its form's, at the numbers of atoms
 
@@ -210,8 +208,8 @@ module _ (m : Tables) (c : Calls) (env : Env) where
       sym (ap as_number r.1.1.1.1) ∙ ((λ i. h.0 r.0 r.1.1.0 i -ℤ h.1 r.1.0 r.1.1.1.0 i)
       ∙ (rearranged_less (valued number_at (summands a)) (form a constant) (valued number_at (summands b)) (form b constant)
       ∙ ap (λ z. z +ℤ (form a constant -ℤ form b constant))
-          (ap (λ z. valued number_at (summands a) +ℤ z) (sym (valued-scaled (neg_ℤ (pos 1)) number_at (summands b) ∙ minus_one (valued number_at (summands b))))
-          ∙ sym (valued-append number_at (summands a) (scaled (neg_ℤ (pos 1)) (summands b))))))
+      (ap (λ z. valued number_at (summands a) +ℤ z) (sym (valued-scaled (neg_ℤ (pos 1)) number_at (summands b) ∙ minus_one (valued number_at (summands b))))
+      ∙ sym (valued-append number_at (summands a) (scaled (neg_ℤ (pos 1)) (summands b))))))
   gives (opposite a) t e h v is =
       let r = one_value oper.Neg a v (λ os. refl) (ap (λ t. value_by m c t env) (sym e) ∙ is) in
       sym (ap as_number r.1.1) ∙ (ap neg_ℤ (h r.0 r.1.0) ∙ (opposite_sum (valued number_at (summands a)) (form a constant)
@@ -265,10 +263,10 @@ module _ (m : Tables) (c : Calls) (env : Env) where
       (sym r.1.1.1.1 ∙ (λ i. a_truth (int_lt (sym (number_is a r.1.0 r.1.1.1.0) i) (sym (number_is b r.0 r.1.1.0) i))), ((r.1.0, r.1.1.1.0), (r.0, r.1.1.0)))
 
   compared_tells : (o : Oper) (ts : List Term) (fact : Fact) → compared o ts ≡ Some fact → (v : Value) → has (op o ts) v → Tells v fact
-  compared_tells oper.Le (a ∷ b ∷ []) fact e v h = subst (Tells v) (some_is (at_most a b) fact e) (tells_le a b v h)
-  compared_tells oper.Ge (b ∷ a ∷ []) fact e v h = subst (Tells v) (some_is (at_most a b) fact e) (tells_ge b a v h)
-  compared_tells oper.Lt (a ∷ b ∷ []) fact e v h = subst (Tells v) (some_is (below a b) fact e) (tells_lt a b v h)
-  compared_tells oper.Gt (b ∷ a ∷ []) fact e v h = subst (Tells v) (some_is (below a b) fact e) (tells_gt b a v h)
+  compared_tells oper.Le (a ∷ b ∷ []) fact e v h = subst (Tells v) (same_Some (at_most a b) fact e) (tells_le a b v h)
+  compared_tells oper.Ge (b ∷ a ∷ []) fact e v h = subst (Tells v) (same_Some (at_most a b) fact e) (tells_ge b a v h)
+  compared_tells oper.Lt (a ∷ b ∷ []) fact e v h = subst (Tells v) (same_Some (below a b) fact e) (tells_lt a b v h)
+  compared_tells oper.Gt (b ∷ a ∷ []) fact e v h = subst (Tells v) (same_Some (below a b) fact e) (tells_gt b a v h)
   compared_tells oper.Le [] fact e v h = absurd cc
   compared_tells oper.Le (a ∷ []) fact e v h = absurd cc
   compared_tells oper.Le (a ∷ b ∷ d ∷ ts) fact e v h = absurd cc
@@ -295,8 +293,8 @@ module _ (m : Tables) (c : Calls) (env : Env) where
   comparison_tells t fact e v h = comparison_layer (out-Term t) fact e v (ap (λ t. value_by m c t env) (roll-out-Term t) ∙ h)
 
   pub denied_says : (g fact : Fact) → denied g ≡ Some fact → Sides g → (not (says g) ≡ says fact) × Sides fact
-  denied_says (at_most a b) fact e s = subst (λ f. (not (int_le (number_at a) (number_at b)) ≡ says f) × Sides f) (some_is (below b a) fact e) (not_le (number_at a) (number_at b), (s.1, s.0))
-  denied_says (below a b) fact e s = subst (λ f. (not (int_lt (number_at a) (number_at b)) ≡ says f) × Sides f) (some_is (at_most b a) fact e) (not_lt (number_at a) (number_at b), (s.1, s.0))
+  denied_says (at_most a b) fact e s = subst (λ f. (not (int_le (number_at a) (number_at b)) ≡ says f) × Sides f) (same_Some (below b a) fact e) (not_le (number_at a) (number_at b), (s.1, s.0))
+  denied_says (below a b) fact e s = subst (λ f. (not (int_lt (number_at a) (number_at b)) ≡ says f) × Sides f) (same_Some (at_most b a) fact e) (not_lt (number_at a) (number_at b), (s.1, s.0))
   denied_says (equal_to a b) fact e s = absurd cc
 
   not_tells : (t : Term) (fact : Fact) → option_and_then denied (comparison t) ≡ Some fact → (v : Value) → has (op oper.Not (t ∷ [])) v → Tells v fact
@@ -336,7 +334,7 @@ module _ (m : Tables) (c : Calls) (env : Env) where
   equation_op vars oper.Eq (a ∷ b ∷ []) fact e h = by_test (may_be_number vars a && may_be_number vars b) e
     where
       by_test : (t : Bool) → (if t then Some (equal_to a b) else None) ≡ Some fact → (says fact ≡ true) × Sides fact
-      by_test true e = subst (λ f. (says f ≡ true) × Sides f) (some_is (equal_to a b) fact e) (equal_tells a b h)
+      by_test true e = subst (λ f. (says f ≡ true) × Sides f) (same_Some (equal_to a b) fact e) (equal_tells a b h)
       by_test false e = absurd cc
   equation_op vars oper.Eq [] fact e h = absurd cc
   equation_op vars oper.Eq (a ∷ []) fact e h = absurd cc
@@ -357,7 +355,7 @@ module _ (m : Tables) (c : Calls) (env : Env) where
     where
       by_bound : (o : Option Fact) → bound t ≡ o → (says fact ≡ true) × Sides fact
       by_bound (Some g) f =
-          let is = some_is g fact (sym (ap (λ o. option_or o (equation vars t)) f) ∙ e) in
+          let is = same_Some g fact (sym (ap (λ o. option_or o (equation vars t)) f) ∙ e) in
           let r = bound_tells t fact (f ∙ ap Some is) (a_truth true) h in
           (sym (ap as_truth r.0), r.1)
       by_bound None f = equation_layer vars (out-Term t) fact (sym (ap (λ o. option_or o (equation vars t)) f) ∙ e) (ap (λ t. value_by m c t env) (roll-out-Term t) ∙ h)
@@ -376,7 +374,7 @@ module _ (m : Tables) (c : Calls) (env : Env) where
       (λ i. left i -ℤ right i +ℤ extra_of fact) ∙ (ap (λ z. z +ℤ extra_of fact) (rearranged_less a (form (left_of fact) constant) b (form (right_of fact) constant))
       ∙ (+ℤ_assoc (a +ℤ neg_ℤ b) (form (left_of fact) constant -ℤ form (right_of fact) constant) (extra_of fact)
       ∙ (λ i. (ap (λ z. a +ℤ z) (sym (valued-scaled (neg_ℤ (pos 1)) number_at (summands (right_of fact)) ∙ minus_one b))
-          ∙ sym (valued-append number_at (summands (left_of fact)) (scaled (neg_ℤ (pos 1)) (summands (right_of fact))))) i +ℤ fact_form fact constant i)))
+      ∙ sym (valued-append number_at (summands (left_of fact)) (scaled (neg_ℤ (pos 1)) (summands (right_of fact))))) i +ℤ fact_form fact constant i)))
 
   -- a fact that is true, with a coefficient that may weigh it, adds nothing above 0
   pub adds_nothing : (n : ℤ) (fact : Fact) → says fact ≡ true → (is_equation fact || int_le (pos 0) n) ≡ true → (n *ℤ distance fact) ≤ℤ pos 0

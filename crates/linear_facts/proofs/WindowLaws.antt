@@ -1,10 +1,10 @@
 -- Atoms that are taken into a window.
-use Rattle.std.proofs.Common.{◌≡◌, ℤ, List, [], ◌∷◌, ◌++◌, Bool, true, false, ◌&&◌, ◌||◌, refl, sym, ◌∙◌, ap}
+use Rattle.std.proofs.Common.{◌≡◌, List, [], ◌∷◌, Bool, true, false, ◌&&◌, ◌||◌, refl, sym, ◌∙◌, ap}
 use Rattle.std.specs.List.{list_all, list_any}
 use Rattle.std.proofs.lemmas.List.Folds.{list_all-append}
 use Rattle.term_core.specs.declared.term.Term.{Term}
 use Rattle.linear_facts.specs.declared.lanes.Part as parts
-use Rattle.linear_facts.specs.Forms.{Shape, sum, difference, opposite, multiple, shape_of, within_shape, Part}
+use Rattle.linear_facts.specs.Forms.{Shape, sum, difference, shape_of, within_shape, Part}
 use Rattle.linear_facts.specs.Views.{part_behind}
 use Rattle.linear_facts.specs.Working.{same_part, atoms_by, atoms_of}
 use Rattle.linear_facts.proofs.ShapeLaws.{over_at}

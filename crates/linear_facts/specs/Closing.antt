@@ -1,9 +1,10 @@
 -- When coefficients close a sequent: its facts, weighed by them, add up to a contradiction.
-use Rattle.std.specs.Prelude.{◌≡◌, ℕ, suc, ◌^◌, ◌<◌, ◌≤◌, ℤ, pos, ◌<ℤ◌, int_le, unsigned_abs, List, [], ◌∷◌, ◌++◌, count_by, Bool, true, false, not, ◌&&◌, ◌||◌, if◌then◌else◌, Option, Some, None}
+use Rattle.std.specs.Prelude.{◌≡◌, ℕ, suc, ◌<◌, ◌≤◌, ℤ, pos, ◌<ℤ◌, int_le, unsigned_abs, List, [], ◌∷◌, ◌++◌, count_by, Bool, true, not, ◌&&◌, ◌||◌, if◌then◌else◌, Option, Some, None}
 use Rattle.std.specs.List.{All}
 use Rattle.term_core.specs.declared.term.Term.{Term}
 use Rattle.term_core.specs.declared.sequent.Sequent.{Sequent}
 use Rattle.term_core.specs.Operations.{is_zero}
+use Rattle.linear_facts.specs.declared.limits.TheConstants.{MOST_COEFFICIENT, TOO_MANY, MOST_NUMBER}
 use Rattle.linear_facts.specs.Forms.{Form, Part, atom, constant, form, plus, times, number}
 use Rattle.linear_facts.specs.Facts.{Fact, form_of, is_equation, apart_in, fact_at}
 
@@ -38,15 +39,9 @@ total (w ∷ ws) = plus (times w.0 (form_of w.1)) (total ws)
 
 -- ---- bounds
 
-abbrev pub most_coefficient : ℕ
-most_coefficient = 10 ^ 9
-
-abbrev pub most_number : ℕ
-most_number = 10 ^ 18
-
 -- no coefficient and no constant of the form is above 10 ^ 18 in size
 abbrev pub IsSmall : Form → Type 0
-IsSmall f = (p : Part) → unsigned_abs (f p) ≤ most_number
+IsSmall f = (p : Part) → unsigned_abs (f p) ≤ MOST_NUMBER
 
 -- nor of the form of a term that is taken apart; the form of a literal is its value
 abbrev pub IsBounded : Fact → Type 0
@@ -56,8 +51,8 @@ IsBounded fact = IsSmall (form_of fact) × All (λ t. IsSmall (form t)) (apart_i
 
 pub record Closes (sequent : Sequent) (cs : List ℤ) : Type 0 where
   pub allowed : each_may_weigh sequent 0 cs ≡ true
-  pub given : All (λ c. unsigned_abs c ≤ most_coefficient) cs
-  pub few : count_by (λ c. not (is_zero c)) cs < 2 ^ 32
+  pub given : All (λ c. unsigned_abs c ≤ MOST_COEFFICIENT) cs
+  pub few : count_by (λ c. not (is_zero c)) cs < TOO_MANY
   pub bounded : All (λ w. IsBounded w.1) (weights sequent cs)
   -- the sum has no atom left, and a constant above 0
   pub no_atom : (t : Term) → total (weights sequent cs) (atom t) ≡ pos 0

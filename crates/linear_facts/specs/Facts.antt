@@ -1,6 +1,6 @@
 -- The facts that hypotheses and the negated goal give.
 use Rattle.std.specs.Prelude.{ℕ, zero, suc, pos, List, [], ◌∷◌, ◌++◌, slice_get, Bool, true, false, not, ◌&&◌, if◌then◌else◌, Option, Some, None}
-use Rattle.std.specs.Option.{option_map, option_map_or, option_and_then, option_or}
+use Rattle.std.specs.Option.{option_map_or, option_and_then, option_or}
 use Rattle.term_core.specs.declared.sort.Sort.{Sort}
 use Rattle.term_core.specs.declared.sort.Sort.TheOpen.{Sort-F}
 use Rattle.term_core.specs.declared.sort.Sort.TheViews.{out-Sort}

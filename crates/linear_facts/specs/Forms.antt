@@ -1,5 +1,5 @@
 -- Terms as forms: sums of whole numbers times atoms, and a constant.
-use Rattle.std.specs.Prelude.{ℕ, ℤ, pos, ◌+ℤ◌, ◌-ℤ◌, ◌*ℤ◌, neg_ℤ, List, [], ◌∷◌, ◌++◌, Bool, if◌then◌else◌, Option, Some, None}
+use Rattle.std.specs.Prelude.{ℤ, pos, ◌+ℤ◌, ◌-ℤ◌, ◌*ℤ◌, neg_ℤ, List, [], ◌∷◌, ◌++◌, Bool, if◌then◌else◌, Option, Some, None}
 use Rattle.term_core.specs.declared.term.Oper.{Oper}
 use Rattle.term_core.specs.declared.term.Oper.TheVariants as oper
 use Rattle.term_core.specs.declared.term.Term.{Term}

@@ -1,6 +1,6 @@
 -- What the code works with: marks that tell atoms apart quickly, lanes in which numbers of parts are added up, and the
 -- exact numbers of a form where all are small.
-use Rattle.std.specs.Prelude.{◌≡◌, ℕ, ◌+◌, ◌*◌, ◌%◌, ◌≤◌, ◌^◌, ℤ, pos, negsuc, ◌+ℤ◌, ◌-ℤ◌, ◌*ℤ◌, neg_ℤ, unsigned_abs, nat_le, nat_lt, int_lt, count_by, is_some, List, [], ◌∷◌, ◌++◌, map, drop, fold, Bool, true, false, not, ◌&&◌, ◌||◌, ◌==◌, if◌then◌else◌, Option, Some, None}
+use Rattle.std.specs.Prelude.{◌≡◌, ℕ, ◌+◌, ◌*◌, ◌%◌, ℤ, pos, negsuc, ◌+ℤ◌, ◌-ℤ◌, ◌*ℤ◌, neg_ℤ, unsigned_abs, nat_le, nat_lt, int_lt, count_by, is_some, List, [], ◌∷◌, ◌++◌, map, drop, fold, Bool, true, false, not, ◌&&◌, ◌||◌, ◌==◌, if◌then◌else◌, Option, Some, None}
 use Rattle.std.specs.List.{list_all}
 use Rattle.std.specs.Int.{int_wrap}
 use Rattle.std.specs.Option.{option_map, option_and_then}
@@ -15,7 +15,8 @@ use Rattle.linear_facts.specs.declared.lanes.Part as parts
 use Rattle.linear_facts.specs.declared.lanes.TheConstants.{MARKS, SPREAD}
 use Rattle.term_core.specs.declared.sequent.Sequent.{Sequent}
 use Rattle.term_core.specs.Operations.{is_zero}
-use Rattle.linear_facts.specs.Closing.{each_may_weigh, weights, total, most_coefficient, most_number}
+use Rattle.linear_facts.specs.declared.limits.TheConstants.{MOST_COEFFICIENT, TOO_MANY, MOST_NUMBER}
+use Rattle.linear_facts.specs.Closing.{each_may_weigh, weights, total}
 use Rattle.linear_facts.specs.Facts.{Fact, at_most, below, equal_to}
 use Rattle.term_core.specs.Options.{all_some}
 use Rattle.linear_facts.specs.Forms.{Shape, literal, sum, difference, opposite, multiple, whole, over_shapes, Part, atom, constant, number, same_term}
@@ -101,7 +102,7 @@ with_weights (w ∷ ws) lane = with_weights ws (with_fact w.0 w.1 lane)
 
 -- a number that isn't above 10 ^ 18 in size
 abbrev pub small : ℤ → Option ℤ
-small n = if nat_le (unsigned_abs n) most_number then Some n else None
+small n = if nat_le (unsigned_abs n) MOST_NUMBER then Some n else None
 
 abbrev pub small_of : (ℤ → ℤ → ℤ) → Option ℤ → Option ℤ → Option ℤ
 small_of f a b = option_and_then (λ x. option_and_then (λ y. small (f x y)) b) a
@@ -182,7 +183,7 @@ each_fits lanes fact = differences_fit (lane_numbers lanes (left_of fact)) (lane
 -- ---- sizes: numbers added up without their signs, over all parts
 
 abbrev pub small_size : ℕ → Option ℕ
-small_size m = if nat_le m most_number then Some m else None
+small_size m = if nat_le m MOST_NUMBER then Some m else None
 
 abbrev pub size_of_two : (ℕ → ℕ → ℕ) → Option ℕ → Option ℕ → Option ℕ
 size_of_two f a b = option_and_then (λ x. option_and_then (λ y. small_size (f x y)) b) a
@@ -252,8 +253,8 @@ all_atoms (w ∷ ws) = atoms_in w.1 ++ all_atoms ws
 -- ---- the rules on coefficients
 
 abbrev pub keeps_rules : Sequent → List ℤ → Bool
-keeps_rules sequent cs = each_may_weigh sequent 0 cs && list_all (λ c. nat_le (unsigned_abs c) most_coefficient) cs
-    && nat_lt (count_by (λ c. not (is_zero c)) cs) (2 ^ 32)
+keeps_rules sequent cs = each_may_weigh sequent 0 cs && list_all (λ c. nat_le (unsigned_abs c) MOST_COEFFICIENT) cs
+    && nat_lt (count_by (λ c. not (is_zero c)) cs) TOO_MANY
 
 -- what the code asks
 abbrev pub is_closed : Sequent → List ℤ → Bool

@@ -1,19 +1,16 @@
 // The bound of 10^18 on the numbers of forms.
 ghost use Rattle.std.specs.Prelude.{◌≡◌, ◌≤◌, length, drop, ◌+◌, ◌*◌, ◌+ℤ◌, ◌-ℤ◌, ◌*ℤ◌, pos, map, unsigned_abs, is_some, Some, if◌then◌else◌};
 ghost use Rattle.std.specs.Option.{option_map};
-ghost use Rattle.linear_facts.specs.Closing.{most_number};
 ghost use Rattle.linear_facts.specs.Views.{fact_behind, part_behind};
 ghost use Rattle.linear_facts.specs.Forms.{number, atom};
 ghost use Rattle.linear_facts.specs.Working.{is_lane_of, seen, small, part_numbers, scaled_list, scaled_numbers, plus_or_minus, small_first, small_pairs, items_of, lane_numbers, small_lists, first_difference, small_differences, differences_fit, each_fits, small_size, size_of_two, size_at, fact_size};
 
 use crate::facts::Fact;
 use crate::lanes::{Lane, Part, WINDOW};
+use crate::limits::MOST_NUMBER;
 use crate::shapes::{Shape, shape_of};
 use arrayvec::ArrayVec;
 use term_core::Term;
-
-/// No number of a form may be above this one in size.
-const MOST_NUMBER: u128 = 1_000_000_000_000_000_000;
 
 fn small(number: i128) -> Option<i64>
     ensures { result ≡ small number }
@@ -224,11 +221,7 @@ fn small_differences(left: &[i64], right: &[i64], extras: &[i64]) -> bool
     true
 }
 
-fn differences_fit(
-    left: Option<Numbers>,
-    right: Option<Numbers>,
-    extras: Option<Numbers>,
-) -> bool
+fn differences_fit(left: Option<Numbers>, right: Option<Numbers>, extras: Option<Numbers>) -> bool
     ensures { result ≡ differences_fit (items_of left) (items_of right) (items_of extras) }
 {
     match (left, right, extras) {
@@ -249,7 +242,11 @@ pub fn each_fits<'a>(fact: Fact<'a>, lanes: &[Lane<'a>]) -> bool
     }
     let left = numbers_in(fact.left(), lanes);
     let right = numbers_in(fact.right(), lanes);
-    differences_fit(left, right, part_numbers(lanes, Part::Constant, Some(fact.extra())))
+    differences_fit(
+        left,
+        right,
+        part_numbers(lanes, Part::Constant, Some(fact.extra())),
+    )
 }
 
 fn fact_size(left: Option<u64>, right: Option<u64>) -> Option<u64>

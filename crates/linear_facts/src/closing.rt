@@ -3,22 +3,17 @@ ghost use Rattle.std.specs.Prelude.{◌≡◌, ◌↔◌, ◌≤◌, ◌^◌, �
 ghost use Rattle.std.specs.List.{All, list_all, list_any};
 ghost use Rattle.std.specs.Ordering.{int_eq};
 ghost use Rattle.term_core.specs.Operations.{is_zero};
-ghost use Rattle.linear_facts.specs.Closing.{Closes, may_weigh, each_may_weigh, weighed, weights, most_coefficient};
+ghost use Rattle.linear_facts.specs.Closing.{Closes, may_weigh, each_may_weigh, weighed, weights};
 ghost use Rattle.linear_facts.specs.Views.{fact_behind, found, part_behind};
 ghost use Rattle.linear_facts.specs.Working.{keeps_rules, is_closed, with_weights, fact_number_at, fits_each, IsFresh, same_part, is_right, is_atom_right, is_contradiction, all_right, atoms_of, atoms_in, all_atoms};
 
 use crate::bounds::{each_fits, is_light};
 use crate::facts::{Fact, fact_at};
 use crate::lanes::{Lane, Part, WINDOW, add_fact};
+use crate::limits::{MOST_COEFFICIENT, TOO_MANY};
 use crate::shapes::{Shape, shape_of};
 use arrayvec::ArrayVec;
 use term_core::{Sequent, Term};
-
-/// No coefficient may be above this one in size.
-const MOST_COEFFICIENT: u64 = 1_000_000_000;
-
-/// So many coefficients other than 0 are too many.
-const TOO_MANY: usize = 4_294_967_296;
 
 // ---- the rules on coefficients
 
@@ -49,20 +44,19 @@ fn each_may_weigh(sequent: &Sequent, coeffs: &[i64]) -> bool
 }
 
 fn are_given(coeffs: &[i64]) -> bool
-    ensures { result ≡ list_all (λ c. nat_le (unsigned_abs c) most_coefficient) coeffs.now }
+    ensures { result ≡ list_all (λ c. nat_le (unsigned_abs c) MOST_COEFFICIENT) coeffs.now }
 {
-    coeffs
-        .iter()
-        .all(|coefficient| coefficient.unsigned_abs() <= MOST_COEFFICIENT)
+    coeffs.iter().all(|coefficient| coefficient.unsigned_abs() <= MOST_COEFFICIENT)
 }
 
 fn are_few(coeffs: &[i64]) -> bool
-    ensures { result ≡ nat_lt (count_by (λ c. not (is_zero c)) coeffs.now) (2 ^ 32) }
+    ensures { result ≡ nat_lt (count_by (λ c. not (is_zero c)) coeffs.now) TOO_MANY }
 {
     coeffs
         .iter()
         .filter(|coefficient| !is_zero(**coefficient))
-        .count() < TOO_MANY
+        .count()
+        < TOO_MANY
 }
 
 fn keeps_rules(sequent: &Sequent, coeffs: &[i64]) -> bool
@@ -239,7 +233,13 @@ fn are_atoms_right(sequent: &Sequent, coeffs: &[i64]) -> bool
 {
     let mut window = ArrayVec::new();
     for (i, coefficient) in coeffs.iter().enumerate() {
-        if !take_weight(sequent, coeffs, &mut window, *coefficient, fact_at(sequent, i)) {
+        if !take_weight(
+            sequent,
+            coeffs,
+            &mut window,
+            *coefficient,
+            fact_at(sequent, i),
+        ) {
             return false;
         }
     }
@@ -249,9 +249,7 @@ fn are_atoms_right(sequent: &Sequent, coeffs: &[i64]) -> bool
 fn is_closed(sequent: &Sequent, coeffs: &[i64]) -> bool
     ensures { result ≡ is_closed sequent.now coeffs.now }
 {
-    keeps_rules(sequent, coeffs)
-        && is_positive(sequent, coeffs)
-        && are_atoms_right(sequent, coeffs)
+    keeps_rules(sequent, coeffs) && is_positive(sequent, coeffs) && are_atoms_right(sequent, coeffs)
 }
 
 /// Whether the sequent's facts, weighed by the coefficients, add up to a contradiction. The first

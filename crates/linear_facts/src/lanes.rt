@@ -52,13 +52,7 @@ pub fn mark(term: &Term) -> u32
 {
     match term {
         Term::Int(value) => mixed(1, (value.unsigned_abs() % (MARKS as u128)) as u32),
-        Term::Truth(value) => {
-            if *value {
-                3
-            } else {
-                2
-            }
-        }
+        Term::Truth(value) => { if *value { 3 } else { 2 } }
         Term::Var(name) => {
             let mut mark = 4;
             for byte in name.as_bytes() {

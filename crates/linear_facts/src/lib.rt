@@ -5,8 +5,9 @@ mod bounds;
 mod closing;
 mod facts;
 mod lanes;
-mod shapes;
 mod laws;
+mod limits;
+mod shapes;
 
 pub use closing::closes;
 pub use laws::closing_sequents_are_valid;

@@ -1,10 +1,10 @@
-use Rattle.std.proofs.Common.{◌≡◌, ℤ, pos, negsuc, List, Bool, true, false, Option, Some, ap, sym, ◌∙◌, rules}
+use Rattle.std.proofs.Common.{◌≡◌, negsuc, List, true, false, Some, ap, sym, ◌∙◌, rules}
 use Rattle.std.proofs.lemmas.Int.{to_z-of_z}
 use mir.Syntax.{w128}
 use mir.Val.{SFits}
 use Rattle.term_core.specs.declared.term.Term.{Term}
 use Rattle.linear_facts.specs.declared.lanes.Lane.{Lane}
-use Rattle.linear_facts.specs.Forms.{Shape, literal, sum, difference, opposite, multiple, whole, shape_of, within_shape, constant, atom}
+use Rattle.linear_facts.specs.Forms.{Shape, literal, sum, difference, opposite, multiple, whole, shape_of, within_shape, constant}
 use Rattle.linear_facts.specs.Views.{shape_behind}
 use Rattle.linear_facts.specs.Working.{small, plus_or_minus, small_lists, scaled_numbers, part_numbers, lane_numbers_by, lane_numbers}
 use Rattle.linear_facts.proofs.ShapeLaws.{over_at}
@@ -18,7 +18,7 @@ returns-in-Literal t c =
     let n : SFits w128 c.in-Literal.value = search rules in
     let lanes = c.args.lanes.now in
     c.part_numbers.ensures ∙ (ap (part_numbers lanes constant) (c.small.ensures ∙ ap small (to_z-of_z w128 c.in-Literal.value n))
-        ∙ at lanes c.args.term.now (literal c.in-Literal.value) (sym c.shape_of.ensures ∙ ap shape_behind c.in-Literal.is))
+    ∙ at lanes c.args.term.now (literal c.in-Literal.value) (sym c.shape_of.ensures ∙ ap shape_behind c.in-Literal.is))
 
 pub returns-in-Sum : goal.returns-in-Sum
 returns-in-Sum t c = c.small_lists.ensures ∙ ((λ i. small_lists (plus_or_minus false) (c.numbers_in.ensures i) (c.numbers_in-in-Sum.ensures i))

@@ -17,7 +17,7 @@ pub returns-in-Literal : goal.returns-in-Literal
 returns-in-Literal t c =
     let n : SFits w128 c.in-Literal.value = search rules in
     c.literal_size.ensures ∙ (ap (λ z. small_size (unsigned_abs z)) (to_z-of_z w128 c.in-Literal.value n)
-        ∙ at c.args.term.now (literal c.in-Literal.value) (sym c.shape_of.ensures ∙ ap shape_behind c.in-Literal.is))
+    ∙ at c.args.term.now (literal c.in-Literal.value) (sym c.shape_of.ensures ∙ ap shape_behind c.in-Literal.is))
 
 pub returns-in-Sum : goal.returns-in-Sum
 returns-in-Sum t c = c.size_sum.ensures ∙ ((λ i. size_of_two ◌+◌ (c.size_in.ensures i) (c.size_in-in-Sum.ensures i))

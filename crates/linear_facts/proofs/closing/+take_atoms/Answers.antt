@@ -1,7 +1,7 @@
-use Rattle.std.proofs.Common.{◌≡◌, Bool, ◌&&◌, sym, ap, ◌∙◌}
+use Rattle.std.proofs.Common.{◌&&◌, sym, ap, ◌∙◌}
 use Rattle.std.specs.List.{list_all}
 use Rattle.linear_facts.specs.Closing.{weights}
-use Rattle.linear_facts.specs.Forms.{literal, sum, difference, opposite, multiple, whole}
+use Rattle.linear_facts.specs.Forms.{literal, opposite, multiple, whole}
 use Rattle.linear_facts.specs.Views.{shape_behind}
 use Rattle.linear_facts.specs.Working.{all_right, is_atom_right, atoms_of}
 use Rattle.linear_facts.proofs.WindowLaws.{both_taken, first_failed, atoms_at, all_in_sum, all_in_difference, and_true}
@@ -18,7 +18,7 @@ returns-then-take_atoms t c =
     let right = is_atom_right (weights c.args.sequent.now c.args.coeffs.now) in
     let window = all_right c.args.sequent.now c.args.coeffs.now in
     both_taken c.take_atoms.result c.take_atoms-then-take_atoms.result (window c.args.window.now.items) (window c.take_atoms.new.window.items) (window c.take_atoms-then-take_atoms.new.window.items)
-        (list_all right (atoms_of c.in-Sum.left.now)) (list_all right (atoms_of c.in-Sum.right.now)) c.take_atoms.ensures c.if-take_atoms.true c.take_atoms-then-take_atoms.ensures
+    (list_all right (atoms_of c.in-Sum.left.now)) (list_all right (atoms_of c.in-Sum.right.now)) c.take_atoms.ensures c.if-take_atoms.true c.take_atoms-then-take_atoms.ensures
     ∙ ap (λ b. window c.args.window.now.items && b) (sym (all_in_sum right c.args.term.now c.in-Sum.left.now c.in-Sum.right.now (sym c.shape_of.ensures ∙ ap shape_behind c.in-Sum.is)))
 
 pub returns-else-take_atoms : goal.returns-else-take_atoms
@@ -26,7 +26,7 @@ returns-else-take_atoms t c =
     let right = is_atom_right (weights c.args.sequent.now c.args.coeffs.now) in
     let window = all_right c.args.sequent.now c.args.coeffs.now in
     first_failed c.take_atoms.result (window c.args.window.now.items) (window c.take_atoms.new.window.items)
-        (list_all right (atoms_of c.in-Sum.left.now)) (list_all right (atoms_of c.in-Sum.right.now)) c.take_atoms.ensures c.if-take_atoms.false
+    (list_all right (atoms_of c.in-Sum.left.now)) (list_all right (atoms_of c.in-Sum.right.now)) c.take_atoms.ensures c.if-take_atoms.false
     ∙ ap (λ b. window c.args.window.now.items && b) (sym (all_in_sum right c.args.term.now c.in-Sum.left.now c.in-Sum.right.now (sym c.shape_of.ensures ∙ ap shape_behind c.in-Sum.is)))
 
 pub returns-then-take_atoms-2 : goal.returns-then-take_atoms-2
@@ -34,7 +34,7 @@ returns-then-take_atoms-2 t c =
     let right = is_atom_right (weights c.args.sequent.now c.args.coeffs.now) in
     let window = all_right c.args.sequent.now c.args.coeffs.now in
     both_taken c.take_atoms-in-Difference.result c.take_atoms-then-take_atoms-2.result (window c.args.window.now.items) (window c.take_atoms-in-Difference.new.window.items) (window c.take_atoms-then-take_atoms-2.new.window.items)
-        (list_all right (atoms_of c.in-Difference.left.now)) (list_all right (atoms_of c.in-Difference.right.now)) c.take_atoms-in-Difference.ensures c.if-take_atoms-2.true c.take_atoms-then-take_atoms-2.ensures
+    (list_all right (atoms_of c.in-Difference.left.now)) (list_all right (atoms_of c.in-Difference.right.now)) c.take_atoms-in-Difference.ensures c.if-take_atoms-2.true c.take_atoms-then-take_atoms-2.ensures
     ∙ ap (λ b. window c.args.window.now.items && b) (sym (all_in_difference right c.args.term.now c.in-Difference.left.now c.in-Difference.right.now (sym c.shape_of.ensures ∙ ap shape_behind c.in-Difference.is)))
 
 pub returns-else-take_atoms-2 : goal.returns-else-take_atoms-2
@@ -42,24 +42,24 @@ returns-else-take_atoms-2 t c =
     let right = is_atom_right (weights c.args.sequent.now c.args.coeffs.now) in
     let window = all_right c.args.sequent.now c.args.coeffs.now in
     first_failed c.take_atoms-in-Difference.result (window c.args.window.now.items) (window c.take_atoms-in-Difference.new.window.items)
-        (list_all right (atoms_of c.in-Difference.left.now)) (list_all right (atoms_of c.in-Difference.right.now)) c.take_atoms-in-Difference.ensures c.if-take_atoms-2.false
+    (list_all right (atoms_of c.in-Difference.left.now)) (list_all right (atoms_of c.in-Difference.right.now)) c.take_atoms-in-Difference.ensures c.if-take_atoms-2.false
     ∙ ap (λ b. window c.args.window.now.items && b) (sym (all_in_difference right c.args.term.now c.in-Difference.left.now c.in-Difference.right.now (sym c.shape_of.ensures ∙ ap shape_behind c.in-Difference.is)))
 
 pub returns-in-Opposite : goal.returns-in-Opposite
 returns-in-Opposite t c =
     let right = is_atom_right (weights c.args.sequent.now c.args.coeffs.now) in
     c.take_atoms-in-Opposite.ensures ∙ ap (λ ps. all_right c.args.sequent.now c.args.coeffs.now c.args.window.now.items && list_all right ps)
-        (sym (atoms_at c.args.term.now (opposite c.in-Opposite.inner.now) (sym c.shape_of.ensures ∙ ap shape_behind c.in-Opposite.is)))
+    (sym (atoms_at c.args.term.now (opposite c.in-Opposite.inner.now) (sym c.shape_of.ensures ∙ ap shape_behind c.in-Opposite.is)))
 
 pub returns-in-Multiple : goal.returns-in-Multiple
 returns-in-Multiple t c =
     let right = is_atom_right (weights c.args.sequent.now c.args.coeffs.now) in
     c.take_atoms-in-Multiple.ensures ∙ ap (λ ps. all_right c.args.sequent.now c.args.coeffs.now c.args.window.now.items && list_all right ps)
-        (sym (atoms_at c.args.term.now (multiple c.in-Multiple.field-0 c.in-Multiple.inner.now) (sym c.shape_of.ensures ∙ ap shape_behind c.in-Multiple.is)))
+    (sym (atoms_at c.args.term.now (multiple c.in-Multiple.field-0 c.in-Multiple.inner.now) (sym c.shape_of.ensures ∙ ap shape_behind c.in-Multiple.is)))
 
 pub returns-in-Atom : goal.returns-in-Atom
 returns-in-Atom t c =
     let right = is_atom_right (weights c.args.sequent.now c.args.coeffs.now) in
     let window = all_right c.args.sequent.now c.args.coeffs.now c.args.window.now.items in
     c.take.ensures ∙ (ap (λ b. window && b) (and_true (right c.args.term.now))
-        ∙ ap (λ ps. window && list_all right ps) (sym (atoms_at c.args.term.now whole (sym c.shape_of.ensures ∙ ap shape_behind c.in-Atom.is))))
+    ∙ ap (λ ps. window && list_all right ps) (sym (atoms_at c.args.term.now whole (sym c.shape_of.ensures ∙ ap shape_behind c.in-Atom.is))))

@@ -1,4 +1,4 @@
-use Rattle.std.proofs.Common.{◌≡◌, ℤ, List, [], ◌∷◌, map, Bool, true, false, not, if◌then◌else◌, Option, Some, None, refl, sym, ◌∙◌, ap}
+use Rattle.std.proofs.Common.{◌≡◌, ℤ, List, [], ◌∷◌, map, true, if◌then◌else◌, Option, sym, ◌∙◌, ap}
 use Rattle.std.proofs.lemmas.Int.{to_z-of_z}
 use mir.Syntax.{w64}
 use Rattle.term_core.specs.Operations.{is_zero}
@@ -20,4 +20,4 @@ pub returns-else-not-is_zero : goal.returns-else-not-is_zero
 returns-else-not-is_zero c =
     let zero : is_zero c.args.coefficient ≡ true = ap is_zero (sym (to_z-of_z w64 c.args.coefficient c.ranges.coefficient)) ∙ (sym c.is_zero.ensures ∙ c.if-not-is_zero.false) in
     nothing_added c.args.coefficient (found c.args.fact) c.args.lanes.now
-        (ap (λ o. weighed c.args.coefficient (found o)) c.in-Some.is ∙ ap (λ b. if b then [] else (c.args.coefficient, fact_behind c.in-Some.fact) ∷ []) zero)
+    (ap (λ o. weighed c.args.coefficient (found o)) c.in-Some.is ∙ ap (λ b. if b then [] else (c.args.coefficient, fact_behind c.in-Some.fact) ∷ []) zero)

@@ -1,4 +1,4 @@
-use Rattle.std.proofs.Common.{◌≡◌, ℤ, pos, map, get_or, sym, ap, ◌∙◌, rules}
+use Rattle.std.proofs.Common.{pos, map, get_or, sym, ap, ◌∙◌, rules}
 use Rattle.std.proofs.lemmas.Int.{to_z-of_z}
 use mir.Syntax.{w64}
 use mir.Val.{SFits}
@@ -12,7 +12,7 @@ loop-i-preserved c =
     let coefficient = get_or c.args.coeffs.now c.loop-i.i (pos 0) in
     let fits : SFits w64 coefficient = search rules in
     added_next c.args.sequent.now c.args.coeffs.now c.loop-i.i c.loop-i.lanes c.add_weight.new.lanes c.loop-i-test.true
-        (c.add_weight.ensures ∙ (λ i. map (with_weights (weighed (to_z-of_z w64 coefficient fits i) (c.fact_at.ensures i))) c.loop-i.lanes))
+    (c.add_weight.ensures ∙ (λ i. map (with_weights (weighed (to_z-of_z w64 coefficient fits i) (c.fact_at.ensures i))) c.loop-i.lanes))
     ∙ c.loop-i.invariant
 
 pub returns : goal.returns

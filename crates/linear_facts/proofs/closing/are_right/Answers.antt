@@ -1,4 +1,4 @@
-use Rattle.std.proofs.Common.{◌≡◌, pos, map, Bool, true, false, ◌&&◌, refl, sym, ap, ◌∙◌}
+use Rattle.std.proofs.Common.{pos, map, ◌&&◌, refl, sym, ap, ◌∙◌}
 use Rattle.std.specs.List.{list_all}
 use Rattle.std.specs.Ordering.{int_eq}
 use Rattle.linear_facts.specs.Closing.{weights}
@@ -14,7 +14,7 @@ returns-then-weights_fit c =
     let again = c.as_slice-then-weights_fit.ensures.value ∙ sym c.as_slice.ensures.value in
     ap (λ fit. fit && c.are_zero.result) (sym c.if-weights_fit.true)
     ∙ right_parts ws lanes c.as_slice.result.now c.args.parts.now c.weights_fit.result c.are_zero.result c.lanes_of-lanes.ensures.fresh c.lanes_of-lanes.ensures.parts done c.weights_fit.ensures
-        (c.are_zero.ensures ∙ ap (list_all (λ lane. int_eq lane.sum (pos 0))) again)
+    (c.are_zero.ensures ∙ ap (list_all (λ lane. int_eq lane.sum (pos 0))) again)
 
 pub returns-else-weights_fit : goal.returns-else-weights_fit
 returns-else-weights_fit c =

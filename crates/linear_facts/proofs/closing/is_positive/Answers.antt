@@ -1,4 +1,4 @@
-use Rattle.std.proofs.Common.{◌≡◌, pos, map, Bool, true, false, ◌&&◌, sym, ap, ◌∙◌}
+use Rattle.std.proofs.Common.{pos, ◌&&◌, sym, ap, ◌∙◌}
 use Rattle.std.specs.Prelude.{int_lt}
 use Rattle.std.specs.Int.{int_wrap}
 use Rattle.std.proofs.lemmas.Int.{to_z-of_z, SFits-int_wrap}
@@ -7,7 +7,7 @@ use mir.Val.{to_z, of_z}
 use Rattle.linear_facts.specs.Closing.{weights, total}
 use Rattle.linear_facts.specs.Forms.{constant}
 use Rattle.linear_facts.specs.Views.{part_behind}
-use Rattle.linear_facts.specs.Working.{part_mark, fit_at, IsFresh}
+use Rattle.linear_facts.specs.Working.{part_mark, IsFresh}
 use Rattle.linear_facts.proofs.SumLaws.{constant_fits, constant_sum}
 use Rattle.linear_facts.proofs.closing.is_positive.Goals as goal
 

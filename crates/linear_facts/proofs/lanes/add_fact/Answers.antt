@@ -1,4 +1,4 @@
-use Rattle.std.proofs.Common.{◌≡◌, ℤ, ◌*ℤ◌, neg_ℤ, map, ap, sym, ◌∙◌, rules}
+use Rattle.std.proofs.Common.{◌*ℤ◌, neg_ℤ, map, ap, ◌∙◌, rules}
 use Rattle.std.specs.Int.{int_wrap}
 use Rattle.std.proofs.lemmas.Int.{to_z-of_z}
 use mir.Syntax.{w64, w128}
@@ -19,8 +19,8 @@ returns c =
     let v : SFits w128 c.opposite.result = search rules in
     let u : SFits w128 c.product.result = search rules in
     added_fact c.args.weight c.opposite.result c.product.result (extra_of fact) (left_of fact) (right_of fact) c.args.lanes.now c.add_form.new.lanes c.add_form-2.new.lanes c.add_to.new.lanes
-        (c.opposite.ensures ∙ ap (λ w. int_wrap w128 (neg_ℤ w)) w)
-        (c.product.ensures ∙ (λ i. int_wrap w128 (w i *ℤ extra i)))
-        (c.add_form.ensures ∙ (λ i. map (with_form (w i) (c.left.ensures i)) c.args.lanes.now))
-        (c.add_form-2.ensures ∙ (λ i. map (with_form (to_z-of_z w128 c.opposite.result v i) (c.right.ensures i)) c.add_form.new.lanes))
-        (c.add_to.ensures ∙ ap (λ u. map (λ lane. with_more (seen lane constant u) lane) c.add_form-2.new.lanes) (to_z-of_z w128 c.product.result u))
+    (c.opposite.ensures ∙ ap (λ w. int_wrap w128 (neg_ℤ w)) w)
+    (c.product.ensures ∙ (λ i. int_wrap w128 (w i *ℤ extra i)))
+    (c.add_form.ensures ∙ (λ i. map (with_form (w i) (c.left.ensures i)) c.args.lanes.now))
+    (c.add_form-2.ensures ∙ (λ i. map (with_form (to_z-of_z w128 c.opposite.result v i) (c.right.ensures i)) c.add_form.new.lanes))
+    (c.add_to.ensures ∙ ap (λ u. map (λ lane. with_more (seen lane constant u) lane) c.add_form-2.new.lanes) (to_z-of_z w128 c.product.result u))

@@ -1,4 +1,4 @@
-use Rattle.std.proofs.Common.{◌≡◌, ℕ, ◌+◌, ◌<◌, ℤ, pos, List, ◌++◌, length, map, take, drop, get_or, set, sym, subst, ap, ◌∙◌, if◌then◌else◌}
+use Rattle.std.proofs.Common.{◌≡◌, ℕ, ◌+◌, ◌<◌, pos, List, ◌++◌, length, map, take, drop, get_or, set, sym, subst, ap, ◌∙◌, if◌then◌else◌}
 use Rattle.std.proofs.lemmas.List.Edits.{map_over_more}
 use mir.Syntax.{w128}
 use mir.Val.{to_z, of_z}
@@ -17,5 +17,5 @@ loop-lane-preserved c =
     let number = to_z w128 (of_z w128 c.args.number) in
     let lane = get_or c.loop-lane.lanes c.loop-lane.lane-index c.lane-item.result in
     next (λ lane. with_more (seen lane part number) lane) c.args.lanes.now c.loop-lane.lanes c.loop-lane.lane-index c.lane-item.result c.with_number.result
-        c.loop-lane-test.true c.loop-lane.invariant c.lane-item.is
-        (c.with_number.ensures ∙ ap (λ mark. with_more (if is_lane_of lane part mark then number else pos 0) lane) c.mark-mark.ensures)
+    c.loop-lane-test.true c.loop-lane.invariant c.lane-item.is
+    (c.with_number.ensures ∙ ap (λ mark. with_more (if is_lane_of lane part mark then number else pos 0) lane) c.mark-mark.ensures)
