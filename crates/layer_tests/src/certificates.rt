@@ -274,7 +274,11 @@ const RULES: &[Row] = &[
     // Equations of numbers, and others.
     ("X X =, X 0 <=, X 1 >=, false", &[0, 7, 1, 1], true),
     ("R R =, X 0 <=, X 1 >=, false", &[0, 7, 1, 1], true),
-    ("A 1 of A 1 of =, X 0 <=, X 1 >=, false", &[0, 7, 1, 1], true),
+    (
+        "A 1 of A 1 of =, X 0 <=, X 1 >=, false",
+        &[0, 7, 1, 1],
+        true,
+    ),
     ("S LEN S LEN =, X 0 <=, X 1 >=, false", &[0, 7, 1, 1], true),
     ("T T =, X 0 <=, X 1 >=, false", &[0, 7, 1, 1], false),
     ("A A =, X 0 <=, X 1 >=, false", &[0, 7, 1, 1], false),
@@ -282,7 +286,11 @@ const RULES: &[Row] = &[
     ("true true =, X 0 <=, X 1 >=, false", &[0, 7, 1, 1], false),
     ("T not T not =, X 0 <=, X 1 >=, false", &[0, 7, 1, 1], false),
     ("X Y = X Y = =, X 0 <=, X 1 >=, false", &[0, 7, 1, 1], false),
-    ("A 1 X store A 1 X store =, X 0 <=, X 1 >=, false", &[0, 7, 1, 1], false),
+    (
+        "A 1 X store A 1 X store =, X 0 <=, X 1 >=, false",
+        &[0, 7, 1, 1],
+        false,
+    ),
     // Sums, and atoms.
     ("X X + 0 <=, X 2 * 1 >=, false", &[0, 1, 1], true),
     ("X neg 0 <=, X 1 + 0 <=, false", &[0, 1, 1], true),
@@ -313,25 +321,93 @@ const BOUNDS: &[Row] = &[
     ("X 0 =, X 1 =, false", &[0, 1000000000, -1000000000], true),
     ("X 0 =, X 1 =, false", &[0, 1000000001, -1000000001], false),
     // A literal, and the constant of a fact's form.
-    ("X 1000000000000000000 >=, X 1000000000000000000 <, false", &[0, 1, 1], true),
-    ("X 1000000000000000001 >=, X 1000000000000000001 <, false", &[0, 1, 1], false),
-    ("X -1000000000000000000 <=, X -1000000000000000000 >, false", &[0, 1, 1], true),
-    ("X -1000000000000000001 <=, X -1000000000000000001 >, false", &[0, 1, 1], false),
-    ("X -1000000000000000000 <, X -1000000000000000000 >=, false", &[0, 1, 1], false),
-    ("0 1000000000000000000 * X + 0 <=, X 1 >=, false", &[0, 1, 1], true),
-    ("0 1000000000000000001 * X + 0 <=, X 1 >=, false", &[0, 1, 1], false),
+    (
+        "X 1000000000000000000 >=, X 1000000000000000000 <, false",
+        &[0, 1, 1],
+        true,
+    ),
+    (
+        "X 1000000000000000001 >=, X 1000000000000000001 <, false",
+        &[0, 1, 1],
+        false,
+    ),
+    (
+        "X -1000000000000000000 <=, X -1000000000000000000 >, false",
+        &[0, 1, 1],
+        true,
+    ),
+    (
+        "X -1000000000000000001 <=, X -1000000000000000001 >, false",
+        &[0, 1, 1],
+        false,
+    ),
+    (
+        "X -1000000000000000000 <, X -1000000000000000000 >=, false",
+        &[0, 1, 1],
+        false,
+    ),
+    (
+        "0 1000000000000000000 * X + 0 <=, X 1 >=, false",
+        &[0, 1, 1],
+        true,
+    ),
+    (
+        "0 1000000000000000001 * X + 0 <=, X 1 >=, false",
+        &[0, 1, 1],
+        false,
+    ),
     // A coefficient of a fact's form, and of a term that is taken apart.
-    ("1000000000000000000 X * 0 <=, 1000000000000000000 X * 1 >=, false", &[0, 1, 1], true),
-    ("1000000000000000000 X * X + 0 <=, 1000000000000000000 X * X + 1 >=, false", &[0, 1, 1], false),
-    ("1000000000000000000 X * X - X + 0 <=, 1000000000000000000 X * 1 >=, false", &[0, 1, 1], true),
-    ("1000000000000000000 X * X + X - 0 <=, 1000000000000000000 X * 1 >=, false", &[0, 1, 1], false),
-    ("1000000000 1000000000 X * * 0 <=, 1000000000000000000 X * 1 >=, false", &[0, 1, 1], true),
-    ("1000000000 1000000001 X * * 0 <=, 1000000000 1000000001 X * * 1 >=, false", &[0, 1, 1], false),
+    (
+        "1000000000000000000 X * 0 <=, 1000000000000000000 X * 1 >=, false",
+        &[0, 1, 1],
+        true,
+    ),
+    (
+        "1000000000000000000 X * X + 0 <=, 1000000000000000000 X * X + 1 >=, false",
+        &[0, 1, 1],
+        false,
+    ),
+    (
+        "1000000000000000000 X * X - X + 0 <=, 1000000000000000000 X * 1 >=, false",
+        &[0, 1, 1],
+        true,
+    ),
+    (
+        "1000000000000000000 X * X + X - 0 <=, 1000000000000000000 X * 1 >=, false",
+        &[0, 1, 1],
+        false,
+    ),
+    (
+        "1000000000 1000000000 X * * 0 <=, 1000000000000000000 X * 1 >=, false",
+        &[0, 1, 1],
+        true,
+    ),
+    (
+        "1000000000 1000000001 X * * 0 <=, 1000000000 1000000001 X * * 1 >=, false",
+        &[0, 1, 1],
+        false,
+    ),
     // What isn't taken apart, or weighed, has no bound.
-    ("A 1000000000000000001 of 0 <=, A 1000000000000000001 of 1 >=, false", &[0, 1, 1], true),
-    ("X 170141183460469231731687303715884105727 <=, X 0 <=, X 1 >=, false", &[0, 0, 1, 1], true),
-    ("X 170141183460469231731687303715884105727 <=, X 0 <=, X 1 >=, false", &[0, 1, 1, 2], false),
-    ("-170141183460469231731687303715884105728 X * 0 <=, X 0 <=, X 1 >=, false", &[0, 0, 1, 1], true),
+    (
+        "A 1000000000000000001 of 0 <=, A 1000000000000000001 of 1 >=, false",
+        &[0, 1, 1],
+        true,
+    ),
+    (
+        "X 170141183460469231731687303715884105727 <=, X 0 <=, X 1 >=, false",
+        &[0, 0, 1, 1],
+        true,
+    ),
+    (
+        "X 170141183460469231731687303715884105727 <=, X 0 <=, X 1 >=, false",
+        &[0, 1, 1, 2],
+        false,
+    ),
+    (
+        "-170141183460469231731687303715884105728 X * 0 <=, X 0 <=, X 1 >=, false",
+        &[0, 0, 1, 1],
+        true,
+    ),
 ];
 
 #[test]
@@ -379,8 +455,14 @@ fn chain_closes(alloc: Global, factor: i128) -> Result<(bool, bool, bool), Memor
     let sequent = chain(alloc, factor)?;
     let ones = vec![in alloc; 1; 201]?;
     let whole = closes(&sequent, ones.as_slice());
-    let less = closes(&sequent, with_more(alloc, ones.as_slice(), 150, -1)?.as_slice());
-    let more = closes(&sequent, with_more(alloc, ones.as_slice(), 0, 1)?.as_slice());
+    let less = closes(
+        &sequent,
+        with_more(alloc, ones.as_slice(), 150, -1)?.as_slice(),
+    );
+    let more = closes(
+        &sequent,
+        with_more(alloc, ones.as_slice(), 0, 1)?.as_slice(),
+    );
     Ok((whole, less, more))
 }
 
@@ -389,7 +471,13 @@ fn many_atoms_are_added_up(rt: HostRuntime) -> Result<(), Fail> {
     let alloc = rt.alloc();
     assert_eq!(rt; chain_closes(alloc, 1)?, (true, false, false));
     // Numbers so large that each is held to the bound, and met and passed by one.
-    assert_eq!(rt; chain_closes(alloc, 1_000_000_000_000_000_000)?, (true, false, false));
-    assert_eq!(rt; chain_closes(alloc, 1_000_000_000_000_000_001)?, (false, false, false));
+    assert_eq!(rt;
+        chain_closes(alloc, 1_000_000_000_000_000_000)?,
+        (true, false, false)
+    );
+    assert_eq!(rt;
+        chain_closes(alloc, 1_000_000_000_000_000_001)?,
+        (false, false, false)
+    );
     Ok(())
 }

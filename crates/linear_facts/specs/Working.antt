@@ -27,6 +27,7 @@ use Rattle.linear_facts.specs.Views.{part_behind}
 abbrev pub mixed : ℕ → ℕ → ℕ
 mixed mark next = (mark * SPREAD + next) % MARKS
 
+-- each kind of term begins with a number of its own
 abbrev pub mark_step : Term-F ℕ → ℕ
 mark_step (Term-F.Int n) = mixed 1 (unsigned_abs n % MARKS)
 mark_step (Term-F.Truth b) = if b then 3 else 2
