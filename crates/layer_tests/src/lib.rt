@@ -10,6 +10,8 @@ mod bases;
 #[cfg(test)]
 mod carrying;
 #[cfg(test)]
+mod certificates;
+#[cfg(test)]
 mod edges;
 #[cfg(test)]
 mod runs;

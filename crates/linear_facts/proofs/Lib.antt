@@ -1,0 +1,12 @@
+pub mod BoundLaws
+pub mod ClosingLaws
+pub mod Integers
+pub mod LaneLaws
+pub mod NumberLaws
+pub mod ShapeLaws
+pub mod Soundness
+pub mod SumLaws
+pub mod Summands
+pub mod Truths
+pub mod WeightLaws
+pub mod WindowLaws
