@@ -1,0 +1,16 @@
+//! What a document says about names: its declarations with their regions and numbers.
+#![tactic(auto)]
+
+mod collect;
+mod entry;
+mod naming;
+mod places;
+mod predefined;
+mod said;
+mod table;
+
+pub use entry::{Around, Entry, Space};
+pub use naming::place_of;
+pub use places::{has_ended, is_in, kid};
+pub use predefined::PREDEFINED;
+pub use table::{Key, Table};

@@ -1,0 +1,35 @@
+// From numbers of declarations to their places.
+ghost use Rattle.std.specs.Prelude.{◌≡◌, IfOk};
+ghost use Rattle.ada_names.specs.Collecting.{entries_of};
+ghost use Rattle.ada_names.specs.Repeats as spec;
+
+use crate::entry::{Entry, Space};
+use crate::table::Table;
+use ada_tree::{DeclId, Doc};
+use base_kit::{Copied, Memory, Path};
+use std::alloc::Global;
+
+fn is_declared_as(id: DeclId, entry: &Entry) -> bool
+    ensures { result ≡ spec.is_declared_as id entry.now }
+{
+    match entry.number {
+        Some(number) => number == id && entry.space != Space::Predefined,
+        None => false,
+    }
+}
+
+/// The path of the node that holds the declared name of this number, its Id or else the node whose text
+/// the name is; where a body or a full type has the number too, it is that of the earlier
+/// declaration. None exactly where the document declares no name of this number. It goes over the whole
+/// document.
+pub fn place_of(alloc: Global, doc: &Doc, id: DeclId) -> Result<Option<Path>, Memory>
+    ensures { IfOk result (λ path. path ≡ spec.place_of (entries_of doc.now) id) }
+{
+    let table = Table::of(alloc, doc)?;
+    for entry in table.entries() {
+        if is_declared_as(id, entry) {
+            return Ok(Some(entry.place.copy(alloc)?));
+        }
+    }
+    Ok(None)
+}
