@@ -17,7 +17,7 @@ abbrev pub is_space : Space → Space → Bool
 is_space a b = sameb space_row.the_type a b
 
 abbrev pub is_of : Space → List ℕ → List ℕ → Entry → Bool
-is_of s region name e = is_space e.space s && bytes_eq e.region region && bytes_eq e.name name
+is_of s region name e = is_space e.space s && (bytes_eq e.region region && bytes_eq e.name name)
 
 -- Where a region has a name twice, the first declaration counts.
 abbrev pub first_of : List Entry → Space → List ℕ → List ℕ → Option Entry

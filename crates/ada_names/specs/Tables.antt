@@ -1,5 +1,6 @@
 -- What the tables over a list of entries hold.
-use Rattle.std.specs.Prelude.{◌≡◌, ℕ, ◌+◌, suc, List, [], ◌∷◌, ◌++◌, Bool, true, false, bytes_eq, ◌&&◌, if◌then◌else◌, Option, Some, None, option_map, slice_get, filter_map, count_by, Vec}
+use Rattle.std.specs.Prelude.{◌≡◌, ℕ, ◌+◌, suc, List, [], ◌∷◌, ◌++◌, Bool, true, false, bytes_eq, ◌&&◌, if◌then◌else◌, Option, Some, None, option_map, slice_get, filter_map, filter, find, count_by, Vec}
+use Rattle.std.specs.Option.{option_and_then}
 use Rattle.std.specs.Global.{Global}
 use Rattle.std.specs.HashMap.{HashMap, get}
 use Rattle.ada_names.specs.declared.entry.Entry.{Entry}
@@ -56,4 +57,7 @@ pub record Holds {S U V : Type 0} (key_eq : Key → Key → Bool) (place_eq : Nu
   pub by_name : (key : Key) → get key_eq names key ≡ first_index (test_name key) es
   pub by_place : (place : Numbers) → get place_eq places place ≡ first_index (is_at place.items) es
   pub by_region : (region : Numbers) → list_of (get place_eq uses region) ≡ all_indexes (is_use_in region.items) 0 es
+  pub finds_name : (key : Key) → option_and_then (slice_get es) (get key_eq names key) ≡ find (test_name key) es
+  pub finds_place : (place : Numbers) → option_and_then (slice_get es) (get place_eq places place) ≡ find (is_at place.items) es
+  pub finds_uses : (region : Numbers) → filter_map (slice_get es) (list_of (get place_eq uses region)) ≡ filter (is_use_in region.items) es
   pub all_numbers : numbers ≡ count_by is_own es

@@ -55,9 +55,10 @@ fn note_name(
 ) -> Result<IndexMap<Key, usize>, Memory>
     ensures { IfOk result (λ noted. NotesFirst ⟦<Key as PartialEq>⟧.eq names noted key number) }
 {
-    if names.get(&key).is_none() {
-        names.insert(key, number)?;
+    if names.get(&key).is_some() {
+        return Ok(names);
     }
+    names.insert(key, number)?;
     Ok(names)
 }
 
@@ -68,9 +69,10 @@ fn note_place(
 ) -> Result<IndexMap<Vec<u32>, usize>, Memory>
     ensures { IfOk result (λ noted. NotesFirst ⟦<Vec<u32> as PartialEq>⟧.eq places noted place number) }
 {
-    if places.get(&place).is_none() {
-        places.insert(place, number)?;
+    if places.get(&place).is_some() {
+        return Ok(places);
     }
+    places.insert(place, number)?;
     Ok(places)
 }
 
