@@ -6,16 +6,14 @@ use Rattle.ada_names.specs.declared.entry.Space.TheVariants as space
 use Rattle.ada_names.specs.declared.predefined.TheConstants.{PREDEFINED}
 use Rattle.ada_names.specs.Entries.{next_number}
 
-abbrev pub Row : Type 0
-Row = record { now : List ℕ } × Kind
+abbrev pub predefined_entry : List Entry → List ℕ → Kind → Entry
+predefined_entry es name k = record { space = space.Predefined; kind = k; name = name; place = []; origin = []; region = []; from = []; within = []; number = Some (next_number es) }
 
-abbrev pub predefined_entry : List Entry → Row → Entry
-predefined_entry es row = record { space = space.Predefined; kind = row.1; name = row.0.now; place = []; origin = []; region = []; from = []; within = []; number = Some (next_number es) }
-
-abbrev pub with_predefined : List Row → List Entry → List Entry
-with_predefined [] es = es
-with_predefined (row ∷ rows) es = with_predefined rows (es ++ predefined_entry es row ∷ [])
+-- the rows' names and kinds, after these entries
+abbrev pub with_predefined : {R : Type 0} → (R → List ℕ) → (R → Kind) → List R → List Entry → List Entry
+with_predefined name k [] es = es
+with_predefined name k (row ∷ rows) es = with_predefined name k rows (es ++ predefined_entry es (name row) (k row) ∷ [])
 
 -- their entries, with the numbers from 0 on
 abbrev pub predefined : List Entry
-predefined = with_predefined PREDEFINED []
+predefined = with_predefined (λ row. row.0.now) (λ row. row.1) PREDEFINED []

@@ -3,7 +3,7 @@ ghost use Rattle.std.specs.Prelude.{◌≡◌, [], Some, IfOk};
 ghost use Rattle.ada_tree.specs.Nodes.{kind_of, text_of};
 ghost use Rattle.ada_names.specs.Entries as entries;
 ghost use Rattle.ada_names.specs.Collecting as spec;
-ghost use Rattle.ada_names.specs.Predefined.{with_predefined};
+ghost use Rattle.ada_names.specs.Predefined.{with_predefined, predefined};
 
 use crate::entry::{Around, Entry, Space};
 use crate::places::kid;
@@ -324,7 +324,7 @@ fn with_predefined(
     rows: &[(&str, Kind)],
     mut table: Table,
 ) -> Result<Table, Memory>
-    ensures { IfOk result (λ after. after ≡ with_predefined rows.now table) }
+    ensures { IfOk result (λ after. after ≡ with_predefined (λ row. row.0.now) (λ row. row.1) rows.now table) }
 {
     for (name, kind) in rows {
         let entry = Entry {
@@ -343,18 +343,20 @@ fn with_predefined(
     Ok(table)
 }
 
+fn predefined(alloc: Global) -> Result<Table, Memory>
+    ensures { IfOk result (λ table. table ≡ predefined) }
+{
+    with_predefined(alloc, &PREDEFINED, Table::new(alloc))
+}
+
 impl Table {
     /// What a document says about names: one pass over its nodes.
     pub fn of(alloc: Global, doc: &Doc) -> Result<Table, Memory>
         ensures { IfOk result (λ table. table ≡ spec.entries_of doc.now) }
     {
-        let predefined = with_predefined(alloc, &PREDEFINED, Table::new(alloc))?;
-        collect(
-            alloc,
-            &doc.root,
-            &Path(Vec::new(alloc)),
-            &Around::outermost(alloc),
-            predefined,
-        )
+        let at = Path(Vec::new(alloc));
+        let around = Around::outermost(alloc);
+        let predefined = predefined(alloc)?;
+        collect(alloc, &doc.root, &at, &around, predefined)
     }
 }
