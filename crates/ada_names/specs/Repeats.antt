@@ -6,9 +6,7 @@ use Rattle.base_kit.specs.declared.fault.Stop.TheVariants as stop
 use Rattle.ada_tree.specs.declared.kind.Kind.{Kind}
 use Rattle.ada_tree.specs.declared.kind.Kind.TheVariants as kind
 use Rattle.ada_tree.specs.declared.doc.DeclId.{DeclId}
-use Rattle.base_kit.specs.declared.fault.Code.{Code}
-use Rattle.base_kit.specs.declared.fault.Place.TheVariants.{At}
-use Rattle.base_kit.specs.declared.fault.Fault.{Fault}
+use Rattle.ada_tree.specs.Sights.{fault}
 use Rattle.ada_names.specs.declared.entry.Entry.{Entry}
 use Rattle.ada_names.specs.declared.entry.Space.{Space}
 use Rattle.ada_names.specs.declared.entry.Space.TheVariants as space
@@ -89,24 +87,21 @@ claim_of es None = without
 abbrev pub claim : List Entry → List ℕ → Claim
 claim es path = claim_of es (entry_at es path)
 
-abbrev pub fault_at : Code → List ℕ → Fault
-fault_at c path = record { code = c; place = At path; count = 0 }
-
 -- The answer for a path. Want of memory is free.
 abbrev pub Answers : Claim → List ℕ → Result DeclId Stop → Type 0
 Answers (numbered id) path (Ok given) = given ≡ id
 Answers taken path (Ok given) = ⊥
 Answers without path (Ok given) = ⊥
 Answers (numbered id) path (Err (stop.Fault f)) = ⊥
-Answers taken path (Err (stop.Fault f)) = f ≡ fault_at code.F06 path
-Answers without path (Err (stop.Fault f)) = f ≡ fault_at code.F05 path
+Answers taken path (Err (stop.Fault f)) = f ≡ fault code.F06 path
+Answers without path (Err (stop.Fault f)) = f ≡ fault code.F05 path
 Answers c path (Err stop.Memory) = Unit {0}
 
 -- F06 exactly where the name is taken
 abbrev pub Distinct : Claim → List ℕ → Result (Unit {0}) Stop → Type 0
 Distinct taken path (Ok given) = ⊥
 Distinct c path (Ok given) = Unit {0}
-Distinct taken path (Err (stop.Fault f)) = f ≡ fault_at code.F06 path
+Distinct taken path (Err (stop.Fault f)) = f ≡ fault code.F06 path
 Distinct c path (Err (stop.Fault f)) = ⊥
 Distinct c path (Err stop.Memory) = Unit {0}
 

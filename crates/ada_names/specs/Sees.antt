@@ -6,7 +6,6 @@ use Rattle.ada_tree.specs.declared.kind.Kind.TheVariants as kind
 use Rattle.ada_tree.specs.declared.node.Node.{Node}
 use Rattle.ada_tree.specs.declared.doc.DeclId.{DeclId}
 use Rattle.ada_tree.specs.Kinds.{is_kind}
-use Rattle.ada_tree.specs.Nodes.{kind_of, text_of, kids_of}
 use Rattle.ada_tree.specs.Sights.{Sight, declared, nothing, two}
 use Rattle.ada_names.specs.declared.entry.Entry.{Entry}
 use Rattle.ada_names.specs.declared.entry.Space.TheVariants as space
@@ -247,12 +246,3 @@ sees_among es parts place = sight_of (found es parts place)
 -- Sees(place, name, d): what the name with these parts sees at a place of the document
 abbrev pub sees : Node → List (List ℕ) → List ℕ → Sight
 sees doc parts place = sees_among (entries_of doc) parts place
-
--- the parts of a name, or of a name selected from one; none of any other node
-abbrev pub parts_of : Node → List (List ℕ)
-parts_of node = by (kind_of node) (kids_of node)
-  where
-    by : Kind → List Node → List (List ℕ)
-    by kind.Name kids = text_of node ∷ []
-    by kind.Select (prefix ∷ []) = if is_kind (kind_of prefix) kind.Name then text_of prefix ∷ text_of node ∷ [] else []
-    by _ _ = []

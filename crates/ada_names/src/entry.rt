@@ -23,12 +23,13 @@ pub enum Space {
     Withs,
     /// The names of `use` clauses, by region.
     Uses,
-    /// What tells whether a place is in a term, and package bodies without their package.
+    /// What isn't looked up by name: where a part of an annotation begins that is a term or isn't one, and
+    /// package bodies without their package.
     Places,
 }
 
-/// A name that a document declares, binds, or mentions in a `with` or `use` clause; or the beginning of
-/// a term of an annotation.
+/// A name that a document declares, binds, or mentions in a `with` or `use` clause; or a place that decides
+/// how names are seen: the node of an annotation at which terms begin (`Space::Places`).
 #[derive(Drop)]
 pub struct Entry {
     pub space: Space,

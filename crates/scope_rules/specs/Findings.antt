@@ -3,7 +3,7 @@ use Rattle.std.specs.Prelude.{◌≡◌, ℕ, List}
 use Rattle.base_kit.specs.declared.fault.Code.{Code}
 use Rattle.base_kit.specs.declared.fault.Stop.{Stop}
 use Rattle.base_kit.specs.declared.fault.Stop.TheVariants as stop
-use Rattle.ada_names.specs.Repeats.{fault_at}
+use Rattle.ada_tree.specs.Sights.{fault}
 use Rattle.ada_names.specs.declared.entry.Entry.{Entry}
 use Rattle.ada_names.specs.Sees as sees
 use Rattle.scope_rules.specs.declared.found.Found.{Found}
@@ -17,5 +17,5 @@ found_copied found.Several = sees.several
 
 -- the fault of this code at the path, unless memory is wanting
 abbrev pub IsFault : Code → List ℕ → Stop → Type 0
-IsFault code path (stop.Fault f) = f ≡ fault_at code path
+IsFault code path (stop.Fault f) = f ≡ fault code path
 IsFault code path stop.Memory = Unit {0}

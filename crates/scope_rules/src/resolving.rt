@@ -1,7 +1,7 @@
 // What a name sees.
 ghost use Rattle.std.specs.Prelude.{◌≡◌, [], ◌∷◌, IfOk};
 ghost use Rattle.std.specs.Option.{option_copied};
-ghost use Rattle.ada_tree.specs.Sights.{Answers};
+ghost use Rattle.ada_tree.specs.Sights.{Answers, parts_of};
 ghost use Rattle.ada_names.specs.Sees as spec;
 ghost use Rattle.scope_rules.specs.Findings.{found_copied, IsFault};
 
@@ -78,7 +78,7 @@ impl Scope {
     }
 
     fn found(&self, name: &Node, place: &Path) -> Result<Found<'_>, Memory>
-        ensures { IfOk result (λ f. found_copied f ≡ spec.found self.now (spec.parts_of name.now) place.now) }
+        ensures { IfOk result (λ f. found_copied f ≡ spec.found self.now (parts_of name.now) place.now) }
     {
         match name.kind {
             Kind::Name => self.named(place, &name.text),
@@ -111,7 +111,7 @@ impl Scope {
 /// F07 where two used packages declare the name and nothing else does. A name is a `Name`, or a `Select`
 /// whose prefix is one; any other node sees nothing.
 pub fn resolve(scope: &Scope, name: &Node, at: &Path) -> Result<DeclId, Stop>
-    ensures { Answers (spec.sees_among scope.now (spec.parts_of name.now) at.now) at.now result }
+    ensures { Answers (spec.sees_among scope.now (parts_of name.now) at.now) at.now result }
 {
     match scope.found(name, at)? {
         Found::One(entry) => match entry.number {
@@ -124,7 +124,7 @@ pub fn resolve(scope: &Scope, name: &Node, at: &Path) -> Result<DeclId, Stop>
 }
 
 impl Lookup for Scope {
-    ghost sight = { λ scope name place. spec.sees_among scope (spec.parts_of name) place };
+    ghost sight = { λ scope parts place. spec.sees_among scope parts place };
 
     fn find(&self, name: &Node, at: &Path) -> Result<DeclId, Stop> {
         resolve(self, name, at)
