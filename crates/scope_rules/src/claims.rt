@@ -61,6 +61,7 @@ impl Scope {
         }
     }
 
+    #[tactic(auto, using(crate::proofs::Steps::hides_done, crate::proofs::Steps::hides_here, crate::proofs::Steps::hides_further))]
     fn hides_object(&self, entry: &Entry) -> Result<bool, Memory>
         ensures { IfOk result (λ b. b ≡ spec.hides_object self.now entry.now) }
     {

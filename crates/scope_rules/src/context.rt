@@ -35,13 +35,21 @@ impl Scope {
     }
 
     /// The unit where the declaration of a unit stands.
-    pub(crate) fn declaration_unit(&self, unit: &Path) -> Result<Path, Memory>
+    fn declaration_unit(&self, unit: &Path) -> Result<Path, Memory>
         ensures { IfOk result (λ path. path ≡ spec.declaration_unit self.now unit.now) }
     {
         match self.library_entry(unit)? {
             Some(entry) => unit_of(self.alloc, &entry.origin),
             None => unit.copy(self.alloc),
         }
+    }
+
+    /// The same for the unit of a place.
+    pub(crate) fn declaration_unit_at(&self, place: &Path) -> Result<Path, Memory>
+        ensures { IfOk result (λ path. path ≡ spec.declaration_unit self.now (spec.unit_of place.now)) }
+    {
+        let unit = unit_of(self.alloc, place)?;
+        self.declaration_unit(&unit)
     }
 
     // Whether it is that unit's own declaration, or a `with` clause of that unit names it.
@@ -62,7 +70,7 @@ impl Scope {
         if self.is_known_in(entry, &unit)? {
             return Ok(true);
         }
-        let declared = self.declaration_unit(&unit)?;
+        let declared = self.declaration_unit_at(place)?;
         self.is_known_in(entry, &declared)
     }
 

@@ -93,6 +93,7 @@ impl Scope {
         self.in_region(place, name, &region)
     }
 
+    #[tactic(auto, using(crate::proofs::Steps::seen_further, crate::proofs::Steps::seen_here))]
     fn seen(&self, place: &Path, name: &Text) -> Result<Option<&Entry>, Memory>
         ensures { IfOk result (λ e. option_copied e ≡ spec.seen_from self.now place.now name.now (length place.now)) }
     {

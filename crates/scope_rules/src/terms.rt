@@ -44,6 +44,7 @@ impl Scope {
         }
     }
 
+    #[tactic(auto, using(crate::proofs::Steps::term_further, crate::proofs::Steps::term_here))]
     fn is_in_term(&self, place: &Path) -> Result<bool, Memory>
         ensures { IfOk result (λ b. b ≡ spec.is_in_term self.now place.now) }
     {

@@ -1,11 +1,11 @@
 // What `use` clauses show.
-ghost use Rattle.std.specs.Prelude.{◌≡◌, take, IfOk, filter_map, slice_get, length};
+ghost use Rattle.std.specs.Prelude.{◌≡◌, [], IfOk, slice_get};
+ghost use Rattle.std.specs.List.{cons_option};
 ghost use Rattle.std.specs.Option.{option_copied};
 ghost use Rattle.ada_names.specs.Sees as spec;
 ghost use Rattle.ada_names.specs.Entries.{uses_in};
 ghost use Rattle.scope_rules.specs.Findings.{found_copied};
 
-use crate::context::unit_of;
 use crate::found::Found;
 use crate::scope::Scope;
 use ada_names::{Entry, Space, has_ended, is_in, kid};
@@ -58,26 +58,55 @@ impl Scope {
         }
     }
 
+    // What was found, with what the clause of this index shows.
+    fn shown_at<'a>(
+        &'a self,
+        place: &Path,
+        name: &Text,
+        number: usize,
+        before: Found<'a>,
+    ) -> Result<Found<'a>, Memory>
+        ensures { IfOk result (λ f. found_copied f ≡ spec.shown_by_all self.now place.now name.now (found_copied before.entry) (cons_option (slice_get self.now number) [])) }
+    {
+        match self.table.entries().get(number) {
+            Some(clause) => Ok(before.joined(self.shown_by(place, name, clause)?)),
+            None => Ok(before),
+        }
+    }
+
     // What was found, with what the clauses of a region show.
+    #[tactic(auto, using(crate::proofs::Steps::next_clause))]
     fn shown_in<'a>(
         &'a self,
         place: &Path,
         name: &Text,
         region: &Path,
-        found: Found<'a>,
+        before: Found<'a>,
     ) -> Result<Found<'a>, Memory>
-        ensures { IfOk result (λ f. found_copied f ≡ spec.shown_by_all self.now place.now name.now (found_copied found.entry) (uses_in self.now region.now)) }
+        ensures { IfOk result (λ f. found_copied f ≡ spec.shown_by_all self.now place.now name.now (found_copied before.entry) (uses_in self.now region.now)) }
     {
-        let mut found = found;
+        let mut found = before;
         for number in self.table.uses_in(&region.0) {
-            if let Some(clause) = self.table.entries().get(*number) {
-                found = found.joined(self.shown_by(place, name, clause)?);
-            }
+            found = self.shown_at(place, name, *number, found)?;
         }
         Ok(found)
     }
 
+    // What was found, with what the clauses of the unit of the declaration show.
+    fn shown_in_context<'a>(
+        &'a self,
+        place: &Path,
+        name: &Text,
+        before: Found<'a>,
+    ) -> Result<Found<'a>, Memory>
+        ensures { IfOk result (λ f. found_copied f ≡ spec.shown_by_all self.now place.now name.now (found_copied before.entry) (spec.uses_from self.now place.now 0)) }
+    {
+        let declared = self.declaration_unit_at(place)?;
+        self.shown_in(place, name, &declared, before)
+    }
+
     /// What exactly one of the used packages shows.
+    #[tactic(auto, using(crate::proofs::Steps::used_further))]
     pub(crate) fn by_use(&self, place: &Path, name: &Text) -> Result<Found<'_>, Memory>
         ensures { IfOk result (λ f. found_copied f ≡ spec.by_use self.now place.now name.now) }
     {
@@ -88,8 +117,6 @@ impl Scope {
             found = self.shown_in(place, name, &region, found)?;
             depth -= 1;
         }
-        let unit = unit_of(self.alloc, place)?;
-        let declared = self.declaration_unit(&unit)?;
-        self.shown_in(place, name, &declared, found)
+        self.shown_in_context(place, name, found)
     }
 }
