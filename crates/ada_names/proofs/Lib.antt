@@ -1,2 +1,5 @@
 pub mod Indexes
 pub mod Grown
+pub mod Hiding
+pub mod Fronts
+pub mod Seeing

@@ -5,3 +5,4 @@ pub mod Entries
 pub mod Collecting
 pub mod Sees
 pub mod Repeats
+pub mod Laws

@@ -354,9 +354,16 @@ impl Table {
     pub fn of(alloc: Global, doc: &Doc) -> Result<Table, Memory>
         ensures { IfOk result (λ table. table ≡ spec.entries_of doc.now) }
     {
+        Table::of_root(alloc, &doc.root)
+    }
+
+    /// The same of any tree, as if it were a document.
+    pub fn of_root(alloc: Global, root: &Node) -> Result<Table, Memory>
+        ensures { IfOk result (λ table. table ≡ spec.entries_of root.now) }
+    {
         let at = Path(Vec::new(alloc));
         let around = Around::outermost(alloc);
         let predefined = predefined(alloc)?;
-        collect(alloc, &doc.root, &at, &around, predefined)
+        collect(alloc, root, &at, &around, predefined)
     }
 }

@@ -18,6 +18,20 @@ fn is_declared_as(id: DeclId, entry: &Entry) -> bool
     }
 }
 
+impl Table {
+    /// The place of the first declaration of this number that stands in the document.
+    pub fn place_of(&self, alloc: Global, id: DeclId) -> Result<Option<Path>, Memory>
+        ensures { IfOk result (λ path. path ≡ spec.place_of self.now id) }
+    {
+        for entry in self.entries() {
+            if is_declared_as(id, entry) {
+                return Ok(Some(entry.place.copy(alloc)?));
+            }
+        }
+        Ok(None)
+    }
+}
+
 /// The path of the node that holds the declared name of this number, its Id or else the node whose text
 /// the name is; where a body or a full type has the number too, it is that of the earlier
 /// declaration. None exactly where the document declares no name of this number. It goes over the whole
@@ -25,11 +39,5 @@ fn is_declared_as(id: DeclId, entry: &Entry) -> bool
 pub fn place_of(alloc: Global, doc: &Doc, id: DeclId) -> Result<Option<Path>, Memory>
     ensures { IfOk result (λ path. path ≡ spec.place_of (entries_of doc.now) id) }
 {
-    let table = Table::of(alloc, doc)?;
-    for entry in table.entries() {
-        if is_declared_as(id, entry) {
-            return Ok(Some(entry.place.copy(alloc)?));
-        }
-    }
-    Ok(None)
+    Table::of(alloc, doc)?.place_of(alloc, id)
 }
