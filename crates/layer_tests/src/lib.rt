@@ -10,6 +10,8 @@ mod bases;
 #[cfg(test)]
 mod edges;
 #[cfg(test)]
+mod names;
+#[cfg(test)]
 mod scripts;
 #[cfg(test)]
 mod terms;

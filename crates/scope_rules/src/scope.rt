@@ -1,12 +1,10 @@
 // The scope of a document.
-ghost use Rattle.std.specs.Prelude.{◌≡◌, [], IfOk};
-ghost use Rattle.std.specs.Option.{option_copied};
+ghost use Rattle.std.specs.Prelude.{◌≡◌, IfOk};
 ghost use Rattle.ada_names.specs.Collecting.{entries_of};
-ghost use Rattle.ada_names.specs.Entries.{first_of, entry_at};
 
-use ada_names::{Entry, Key, Space, Table};
-use ada_tree::Doc;
-use base_kit::{Memory, Path, Text};
+use ada_names::Table;
+use ada_tree::{Doc, Node};
+use base_kit::Memory;
 use std::alloc::Global;
 use std::marker::Model;
 
@@ -35,8 +33,15 @@ impl Scope {
     pub fn of(alloc: Global, doc: &Doc) -> Result<Scope, Memory>
         ensures { IfOk result (λ scope. scope ≡ entries_of doc.now) }
     {
+        Scope::of_root(alloc, &doc.root)
+    }
+
+    /// The same of any tree, as if it were a document.
+    pub fn of_root(alloc: Global, root: &Node) -> Result<Scope, Memory>
+        ensures { IfOk result (λ scope. scope ≡ entries_of root.now) }
+    {
         Ok(Scope {
-            table: Table::of(alloc, doc)?,
+            table: Table::of_root(alloc, root)?,
             alloc,
         })
     }
