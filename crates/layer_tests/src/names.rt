@@ -584,6 +584,14 @@ const PLACES: &[(u32, Option<&'static [u32]>)] = &[
     (30, None),
 ];
 
+// A declaration of the units, and its number among the exceptions.
+const EXCEPTIONS: &[(u32, Option<usize>)] = &[
+    (6, Some(0)),
+    (8, Some(2)),
+    (14, None),
+    (15, Some(3)),
+];
+
 fn path(alloc: Global, numbers: &[u32]) -> Result<Path, Memory> {
     Ok(Path(Vec::from_slice(alloc, numbers)?))
 }
@@ -650,13 +658,18 @@ fn answers(answer: Result<DeclId, Stop>, at: &[u32], wanted: Result<u32, Code>) 
     }
 }
 
+fn is_path(path: &Path, numbers: &[u32]) -> bool {
+    path.0.as_slice() == numbers
+}
+
 fn is_fault(stop: Stop, at: &[u32], code: Code) -> bool {
-    match stop {
-        Stop::Fault(fault) => match fault.place {
-            Place::At(path) => fault.code == code && path.0.as_slice() == at,
-            Place::Line(_, _) => false,
-        },
-        Stop::Memory => false,
+    let Stop::Fault(fault) = stop else {
+        return false;
+    };
+    let given = fault.code;
+    match fault.place {
+        Place::At(path) => given == code && is_path(&path, at),
+        Place::Line(_, _) => false,
     }
 }
 
@@ -702,7 +715,7 @@ fn first_undeclared(alloc: Global) -> Result<usize, Memory> {
 
 fn is_placed(alloc: Global, table: &Table, number: u32, at: Option<&[u32]>) -> Result<bool, Memory> {
     Ok(match (table.place_of(alloc, DeclId(number))?, at) {
-        (Some(path), Some(numbers)) => path.0.as_slice() == numbers,
+        (Some(path), Some(numbers)) => is_path(&path, numbers),
         (None, None) => true,
         _ => false,
     })
@@ -721,6 +734,19 @@ fn first_misplaced(alloc: Global) -> Result<usize, Memory> {
     Ok(PLACES.len())
 }
 
+fn first_misnumbered(alloc: Global) -> Result<usize, Memory> {
+    let Some(root) = tree(alloc, UNITS)? else {
+        return Ok(0);
+    };
+    let table = Table::of_root(alloc, &root)?;
+    for (index, (number, exception)) in EXCEPTIONS.iter().enumerate() {
+        if table.exception_number(DeclId(*number)) != *exception {
+            return Ok(index);
+        }
+    }
+    Ok(EXCEPTIONS.len())
+}
+
 #[test]
 fn names_see_what_is_visible(rt: HostRuntime) -> Result<(), Fail> {
     assert_eq!(rt; first_unseen(rt.alloc())?, SEEN.len());
@@ -736,5 +762,11 @@ fn declarations_have_their_numbers_or_are_refused(rt: HostRuntime) -> Result<(),
 #[test]
 fn numbers_lead_to_places(rt: HostRuntime) -> Result<(), Fail> {
     assert_eq!(rt; first_misplaced(rt.alloc())?, PLACES.len());
+    Ok(())
+}
+
+#[test]
+fn exceptions_have_numbers_of_their_own(rt: HostRuntime) -> Result<(), Fail> {
+    assert_eq!(rt; first_misnumbered(rt.alloc())?, EXCEPTIONS.len());
     Ok(())
 }
