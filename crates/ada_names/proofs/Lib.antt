@@ -3,3 +3,4 @@ pub mod Grown
 pub mod Hiding
 pub mod Fronts
 pub mod Seeing
+pub mod Renaming

@@ -1,12 +1,13 @@
 -- What the laws speak of.
-use Rattle.std.specs.Prelude.{◌≡◌, ℕ, suc, ◌<◌, List, [], ◌∷◌, ◌++◌, take, length, true, Option, Some, Contains}
+use Rattle.std.specs.Prelude.{◌≡◌, ℕ, suc, ◌<◌, List, [], ◌∷◌, ◌++◌, take, length, true, false, ◌&&◌, bytes_eq, Option, Some, Contains, if◌then◌else◌}
+use Rattle.std.specs.List.{AllByRecursion}
 use Rattle.ada_tree.specs.declared.kind.Kind.{Kind}
 use Rattle.ada_tree.specs.declared.node.Node.{Node}
 use Rattle.ada_tree.specs.Nodes.{node_of}
 use Rattle.ada_names.specs.declared.entry.Entry.{Entry}
 use Rattle.ada_names.specs.declared.entry.Space.TheVariants as space
 use Rattle.ada_names.specs.Places.{has_ended}
-use Rattle.ada_names.specs.Entries.{first_of}
+use Rattle.ada_names.specs.Entries.{is_space, first_of}
 use Rattle.ada_names.specs.Sees.{is_visible, is_in_context, region_of, shown, used_package, uses_from}
 
 -- Why a name sees a declaration at a place.
@@ -31,3 +32,20 @@ pub data IsFront : Node → Node → Type 0 where
 -- the second list begins with the first
 abbrev pub BeginsWith : List Entry → List Entry → Type 0
 BeginsWith front all = (more : List Entry) × (all ≡ front ++ more)
+
+-- the entry of the node at a path under another name
+abbrev pub renamed : List ℕ → List ℕ → Entry → Entry
+renamed at new e = if bytes_eq e.place at then record e { name = new } else e
+
+-- it isn't the entry at the path under this name
+abbrev pub IsApart : List ℕ → List ℕ → Entry → Type 0
+IsApart at name e = (bytes_eq e.place at && bytes_eq e.name name) ≡ false
+
+-- this name is neither the new name nor the old one of the entry at the path
+pub record Apart (at new : List ℕ) (es : List Entry) (name : List ℕ) : Type 0 where
+  pub new_name : bytes_eq new name ≡ false
+  pub old_name : AllByRecursion (IsApart at name) es
+
+-- nor does a `use` clause name either
+abbrev pub ClausesApart : List ℕ → List ℕ → List Entry → Type 0
+ClausesApart at new es = AllByRecursion (λ u. is_space u.space space.Uses ≡ true → (bytes_eq u.place at ≡ false) × Apart at new es u.name) es

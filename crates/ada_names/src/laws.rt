@@ -1,12 +1,12 @@
 // What holds of all documents. Each law is the contract of a function that does nothing.
-ghost use Rattle.std.specs.Prelude.{◌≡◌, ℕ, suc, ◌<◌, List, [], ◌∷◌, length, take, None, Some};
+ghost use Rattle.std.specs.Prelude.{◌≡◌, ℕ, suc, ◌<◌, List, [], ◌∷◌, length, map, take, None, Some};
 ghost use Rattle.ada_tree.specs.declared.node.Node.{Node};
 ghost use Rattle.ada_tree.specs.declared.doc.DeclId.{DeclId};
 ghost use Rattle.ada_tree.specs.Sights.{declared};
 ghost use Rattle.ada_names.specs.declared.entry.Entry.{Entry};
 ghost use Rattle.ada_names.specs.Collecting.{entries_of};
 ghost use Rattle.ada_names.specs.Sees.{sees, named, one, in_region, region_of, seen_from};
-ghost use Rattle.ada_names.specs.Laws.{Visible, IsFront, BeginsWith};
+ghost use Rattle.ada_names.specs.Laws.{Visible, IsFront, BeginsWith, Apart, ClausesApart, renamed};
 
 /// A name sees one declaration at most.
 pub fn a_name_sees_one_declaration()
@@ -29,4 +29,11 @@ pub fn inner_declarations_hide_outer_ones()
 /// The entries of a document up to a place, with their numbers, don't depend on what follows.
 pub fn entries_dont_depend_on_what_follows()
     ensures { (front whole : Node) → IsFront front whole → BeginsWith (entries_of front) (entries_of whole) }
+{}
+
+/// A declaration under another name leaves the answer for each other name as it was: a name that is
+/// neither the old nor the new one, where no `use` clause names either.
+pub fn renaming_changes_no_other_answer()
+    ensures { (at new : List ℕ) (es : List Entry) (place name : List ℕ) → Apart at new es name → ClausesApart at new es
+        → named (map (renamed at new) es) place name ≡ named es place name }
 {}
