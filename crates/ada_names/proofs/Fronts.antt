@@ -3,7 +3,7 @@ use Rattle.std.proofs.Common.{◌≡◌, ℕ, suc, ◌+◌, List, [], ◌∷◌,
 use Rattle.std.proofs.Common.{append-nil, arith}
 use Rattle.std.proofs.lemmas.List.{map-append}
 use Rattle.ada_tree.specs.declared.kind.Kind.{Kind}
-use Rattle.ada_tree.specs.declared.node.Node.{Node, Node-F, fold-Node, fold-roll-Node, ind-Node, roll-Node}
+use Rattle.ada_tree.specs.declared.node.Node.{Node, Node-F, fold-roll-Node, ind-Node}
 use Rattle.ada_tree.specs.Nodes.{node_of}
 use Rattle.ada_names.specs.declared.entry.Entry.{Entry}
 use Rattle.ada_names.specs.declared.entry.Around.{Around}

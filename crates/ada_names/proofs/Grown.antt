@@ -1,5 +1,5 @@
 -- The tables of a list of entries, with one entry more.
-use Rattle.std.proofs.Common.{◌≡◌, ℕ, ◌+◌, List, [], ◌∷◌, ◌++◌, Bool, refl, ap, sym, ◌∙◌, Option, length, subst, arith}
+use Rattle.std.proofs.Common.{◌≡◌, ℕ, ◌+◌, List, [], ◌∷◌, ◌++◌, Bool, ap, sym, ◌∙◌, Option, length, subst, arith}
 use Rattle.std.specs.Prelude.{if◌then◌else◌, slice_get, filter_map}
 use Rattle.std.specs.Option.{option_and_then}
 use Rattle.std.specs.HashMap.{HashMap, get}

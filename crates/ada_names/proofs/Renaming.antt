@@ -1,6 +1,6 @@
 -- A declaration under another name leaves the answers for all other names.
-use Rattle.std.proofs.Common.{◌≡◌, ℕ, zero, suc, ◌+◌, List, [], ◌∷◌, ◌++◌, map, take, length, Bool, true, false, ◌&&◌, ◌||◌, cond, Option, Some, None, option_map, refl, sym, ap, ◌∙◌, subst, arith}
-use Rattle.std.specs.Prelude.{bytes_eq, find, filter, not, is_some, is_none, if◌then◌else◌}
+use Rattle.std.proofs.Common.{◌≡◌, ℕ, zero, suc, List, [], ◌∷◌, ◌++◌, map, take, length, Bool, true, false, ◌&&◌, ◌||◌, cond, Option, Some, None, option_map, refl, sym, ap, ◌∙◌}
+use Rattle.std.specs.Prelude.{bytes_eq, not, is_some, if◌then◌else◌}
 use Rattle.std.specs.List.{AllByRecursion}
 use Rattle.std.specs.Option.{option_or}
 use Rattle.std.proofs.lemmas.Bool.{and_parts}
@@ -13,7 +13,7 @@ use Rattle.ada_names.specs.declared.entry.Space.{Space}
 use Rattle.ada_names.specs.declared.entry.Space.TheVariants as space
 use Rattle.ada_names.specs.Places.{◌▸◌, has_ended, is_in}
 use Rattle.ada_names.specs.Entries.{is_space, is_of, is_at, first_of, entry_at, is_use_in, uses_in}
-use Rattle.ada_names.specs.Sees.{only, is_visible, region_of, in_region, unit_of, library_entry, declaration_unit, is_known_in, is_in_context, library_unit, earlier_unit, is_entry_of, is_in_trait, predefined_name, seen_from, directly, shown, used_package, shown_by, uses_from, Found, unseen, one, several, joined, shown_by_all, by_use, or_by_use, plainly, begins_term, term_at, or_further, in_term_from, is_in_term, operator_named, object_first, named}
+use Rattle.ada_names.specs.Sees.{only, is_visible, region_of, in_region, unit_of, declaration_unit, is_known_in, is_in_context, library_unit, earlier_unit, is_entry_of, is_in_trait, predefined_name, seen_from, directly, shown, used_package, shown_by, uses_from, Found, unseen, joined, shown_by_all, by_use, or_by_use, plainly, term_at, or_further, in_term_from, is_in_term, operator_named, object_first, named}
 use Rattle.ada_names.specs.Laws.{renamed, Apart, IsApart, ClausesApart}
 
 module _ (at new : List ℕ) where

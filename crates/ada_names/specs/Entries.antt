@@ -1,5 +1,5 @@
 -- The entries of a document: how they are looked up, which declaration completes which, and their numbers.
-use Rattle.std.specs.Prelude.{ℕ, List, [], ◌∷◌, ◌++◌, count_by, filter, Bool, true, false, not, ◌&&◌, bytes_eq, Option, Some, None, is_some, find, position, nat_eq, if◌then◌else◌}
+use Rattle.std.specs.Prelude.{ℕ, List, count_by, filter, Bool, true, false, not, ◌&&◌, bytes_eq, Option, Some, None, is_some, find, position, nat_eq, if◌then◌else◌}
 use denote.Enum.Bare.{sameb}
 use Rattle.ada_tree.specs.declared.kind.Kind.{Kind}
 use Rattle.ada_tree.specs.declared.kind.Kind.TheVariants as kind

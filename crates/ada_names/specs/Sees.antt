@@ -1,5 +1,5 @@
 -- What a name sees at a place.
-use Rattle.std.specs.Prelude.{ℕ, zero, suc, List, [], ◌∷◌, ◌++◌, take, length, filter_map, Bool, true, false, not, ◌&&◌, ◌||◌, bytes_eq, Option, Some, None, is_some, is_none, if◌then◌else◌}
+use Rattle.std.specs.Prelude.{ℕ, zero, suc, List, [], ◌∷◌, ◌++◌, take, length, Bool, true, false, not, ◌&&◌, ◌||◌, bytes_eq, Option, Some, None, is_some, is_none, if◌then◌else◌}
 use Rattle.std.specs.Option.{option_or}
 use Rattle.ada_tree.specs.declared.kind.Kind.{Kind}
 use Rattle.ada_tree.specs.declared.kind.Kind.TheVariants as kind
@@ -10,7 +10,7 @@ use Rattle.ada_tree.specs.Sights.{Sight, declared, nothing, two}
 use Rattle.ada_names.specs.declared.entry.Entry.{Entry}
 use Rattle.ada_names.specs.declared.entry.Space.TheVariants as space
 use Rattle.ada_names.specs.Places.{◌▸◌, has_ended, is_in}
-use Rattle.ada_names.specs.Entries.{is_space, first_of, entry_at, uses_in}
+use Rattle.ada_names.specs.Entries.{first_of, entry_at, uses_in}
 use Rattle.ada_names.specs.Collecting.{entries_of}
 
 abbrev pub only : (Entry → Bool) → Option Entry → Option Entry

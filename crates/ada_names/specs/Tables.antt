@@ -1,5 +1,5 @@
 -- What the tables over a list of entries hold.
-use Rattle.std.specs.Prelude.{◌≡◌, ℕ, ◌+◌, suc, List, [], ◌∷◌, ◌++◌, Bool, true, false, bytes_eq, ◌&&◌, if◌then◌else◌, Option, Some, None, option_map, slice_get, filter_map, filter, find, count_by, Vec}
+use Rattle.std.specs.Prelude.{◌≡◌, ℕ, ◌+◌, suc, List, [], ◌∷◌, ◌++◌, Bool, true, false, if◌then◌else◌, Option, Some, None, option_map, slice_get, filter_map, filter, find, count_by, Vec}
 use Rattle.std.specs.Option.{option_and_then}
 use Rattle.std.specs.Global.{Global}
 use Rattle.std.specs.HashMap.{HashMap, get}

@@ -319,11 +319,7 @@ fn collect(
 }
 
 // The table with the predefined names.
-fn with_predefined(
-    alloc: Global,
-    rows: &[(&str, Kind)],
-    mut table: Table,
-) -> Result<Table, Memory>
+fn with_predefined(alloc: Global, rows: &[(&str, Kind)], mut table: Table) -> Result<Table, Memory>
     ensures { IfOk result (λ after. after ≡ with_predefined (λ row. row.0.now) (λ row. row.1) rows.now table) }
 {
     for (name, kind) in rows {

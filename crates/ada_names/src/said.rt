@@ -154,9 +154,7 @@ impl<'a> Said<'a> {
         ensures { IfOk result (λ e. e ≡ entry_after table.now self.now.kind self.now.name.now self.now.place.now self.now.region.now self.now.from.now self.now.within.now) }
     {
         match self.completed(alloc, table)? {
-            Some(first) => {
-                self.entry_as(alloc, Space::Completions, &first.origin, first.number)
-            }
+            Some(first) => { self.entry_as(alloc, Space::Completions, &first.origin, first.number) }
             None => {
                 let number = self.number(table)?;
                 self.entry_as(alloc, space_of(self.kind), self.place, number)

@@ -226,7 +226,12 @@ const UNITS: &[Row] = &[
 ];
 
 // The prefix or nothing, the name, the place, and what the name sees there.
-type Seen = (&'static str, &'static str, &'static [u32], Result<u32, Code>);
+type Seen = (
+    &'static str,
+    &'static str,
+    &'static [u32],
+    Result<u32, Code>,
+);
 
 const SEEN: &[Seen] = &[
     // Not inside its own declaration; after it, before the outer one.
@@ -237,7 +242,12 @@ const SEEN: &[Seen] = &[
     ("", "I", &[0, 1, 1, 0, 0, 3, 0, 0, 0, 0], Err(Code::F05)),
     ("", "I", &[0, 1, 1, 0, 0, 3, 0, 0, 2, 0, 0, 0, 3], Ok(23)),
     // Blocks beside each other.
-    ("", "K", &[0, 1, 1, 0, 0, 3, 0, 0, 2, 0, 0, 0, 3], Err(Code::F05)),
+    (
+        "",
+        "K",
+        &[0, 1, 1, 0, 0, 3, 0, 0, 2, 0, 0, 0, 3],
+        Err(Code::F05),
+    ),
     ("", "K", &[0, 1, 1, 0, 0, 3, 0, 0, 2, 0, 1, 0, 0], Ok(24)),
     ("", "K", &[0, 1, 1, 0, 0, 3, 0, 0, 2, 1, 1, 0, 0], Ok(25)),
     // The formals of a body are its own, and it has its declaration's number.
@@ -606,11 +616,7 @@ fn node(alloc: Global, kind: Kind, text: &str, kids: Kids) -> Result<Node, Memor
 }
 
 // The kids of a node at this depth: the last nodes that stand one deeper, in order.
-fn take_kids(
-    alloc: Global,
-    built: &mut Vec<(usize, Node)>,
-    depth: usize,
-) -> Result<Kids, Memory> {
+fn take_kids(alloc: Global, built: &mut Vec<(usize, Node)>, depth: usize) -> Result<Kids, Memory> {
     let mut kids = Kids::new(alloc);
     while let Some((deeper, kid)) = built.pop() {
         if deeper <= depth {
@@ -676,8 +682,10 @@ fn is_fault(stop: Stop, at: &[u32], code: Code) -> bool {
 fn sees(alloc: Global, scope: &Scope, row: &Seen) -> Result<bool, Memory> {
     let mark = name(alloc, row.0, row.1)?;
     let at = path(alloc, row.2)?;
-    Ok(answers(resolve(scope, &mark, &at), row.2, row.3)
-        && answers(scope.find(&mark, &at), row.2, row.3))
+    Ok(
+        answers(resolve(scope, &mark, &at), row.2, row.3)
+            && answers(scope.find(&mark, &at), row.2, row.3),
+    )
 }
 
 fn first_unseen(alloc: Global) -> Result<usize, Memory> {
@@ -713,7 +721,12 @@ fn first_undeclared(alloc: Global) -> Result<usize, Memory> {
     Ok(DECLARED.len())
 }
 
-fn is_placed(alloc: Global, table: &Table, number: u32, at: Option<&[u32]>) -> Result<bool, Memory> {
+fn is_placed(
+    alloc: Global,
+    table: &Table,
+    number: u32,
+    at: Option<&[u32]>,
+) -> Result<bool, Memory> {
     Ok(match (table.place_of(alloc, DeclId(number))?, at) {
         (Some(path), Some(numbers)) => is_path(&path, numbers),
         (None, None) => true,

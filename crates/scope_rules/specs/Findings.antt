@@ -4,7 +4,6 @@ use Rattle.base_kit.specs.declared.fault.Code.{Code}
 use Rattle.base_kit.specs.declared.fault.Stop.{Stop}
 use Rattle.base_kit.specs.declared.fault.Stop.TheVariants as stop
 use Rattle.ada_tree.specs.Sights.{fault}
-use Rattle.ada_names.specs.declared.entry.Entry.{Entry}
 use Rattle.ada_names.specs.Sees as sees
 use Rattle.scope_rules.specs.declared.found.Found.{Found}
 use Rattle.scope_rules.specs.declared.found.Found.TheVariants as found

@@ -75,11 +75,7 @@ impl Scope {
     }
 
     /// The library unit of a name that is visible at a place.
-    pub(crate) fn library_unit(
-        &self,
-        place: &Path,
-        name: &Text,
-    ) -> Result<Option<&Entry>, Memory>
+    pub(crate) fn library_unit(&self, place: &Path, name: &Text) -> Result<Option<&Entry>, Memory>
         ensures { IfOk result (λ e. option_copied e ≡ spec.library_unit self.now place.now name.now) }
     {
         let library = Path(Vec::new(self.alloc));
@@ -96,11 +92,7 @@ impl Scope {
     }
 
     /// The library unit of a name whose declaration stands before a place.
-    pub(crate) fn earlier_unit(
-        &self,
-        place: &Path,
-        name: &Text,
-    ) -> Result<Option<&Entry>, Memory>
+    pub(crate) fn earlier_unit(&self, place: &Path, name: &Text) -> Result<Option<&Entry>, Memory>
         ensures { IfOk result (λ e. option_copied e ≡ spec.earlier_unit self.now place.now name.now) }
     {
         let library = Path(Vec::new(self.alloc));

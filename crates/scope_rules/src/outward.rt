@@ -45,12 +45,7 @@ impl Scope {
         }
     }
 
-    fn in_region(
-        &self,
-        place: &Path,
-        name: &Text,
-        region: &Path,
-    ) -> Result<Option<&Entry>, Memory>
+    fn in_region(&self, place: &Path, name: &Text, region: &Path) -> Result<Option<&Entry>, Memory>
         ensures { IfOk result (λ e. option_copied e ≡ spec.in_region self.now place.now name.now region.now) }
     {
         match self.first(Space::Names, region, name)? {
@@ -81,12 +76,7 @@ impl Scope {
     }
 
     // What the region at the node above the place at this depth has.
-    fn at_depth(
-        &self,
-        place: &Path,
-        name: &Text,
-        depth: usize,
-    ) -> Result<Option<&Entry>, Memory>
+    fn at_depth(&self, place: &Path, name: &Text, depth: usize) -> Result<Option<&Entry>, Memory>
         ensures { IfOk result (λ e. option_copied e ≡ spec.in_region self.now place.now name.now (spec.region_of self.now (take depth place.now))) }
     {
         let region = self.region_at(place, depth)?;

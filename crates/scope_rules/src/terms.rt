@@ -17,12 +17,9 @@ fn begins_term(alloc: Global, place: &Path, entry: &Entry) -> Result<Option<bool
     ensures { IfOk result (λ b. b ≡ spec.begins_term place.now entry.now) }
 {
     match entry.kind {
-        Kind::In
-        | Kind::Out
-        | Kind::Invariant
-        | Kind::Assert
-        | Kind::Eqn
-        | Kind::Lemma => Ok(Some(true)),
+        Kind::In | Kind::Out | Kind::Invariant | Kind::Assert | Kind::Eqn | Kind::Lemma => Ok(Some(
+            true,
+        )),
         Kind::RaiseC | Kind::View => {
             let mark = kid(alloc, &entry.place, 0)?;
             Ok(Some(!is_in(mark.0.as_slice(), place.0.as_slice())))

@@ -41,12 +41,7 @@ impl Scope {
         }
     }
 
-    fn shown_by(
-        &self,
-        place: &Path,
-        name: &Text,
-        clause: &Entry,
-    ) -> Result<Option<&Entry>, Memory>
+    fn shown_by(&self, place: &Path, name: &Text, clause: &Entry) -> Result<Option<&Entry>, Memory>
         ensures { IfOk result (λ e. option_copied e ≡ spec.shown_by self.now place.now name.now clause.now) }
     {
         if !has_ended(clause.from.0.as_slice(), place.0.as_slice()) {

@@ -1,4 +1,4 @@
-use Rattle.std.proofs.Common.{◌≤◌, length, arith}
+use Rattle.std.proofs.Common.{length, arith}
 use Rattle.ada_names.proofs.Hiding.{hides}
 use Rattle.ada_names.proofs.laws.inner_declarations_hide_outer_ones.Goals as goal
 

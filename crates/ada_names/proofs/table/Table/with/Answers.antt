@@ -1,9 +1,8 @@
-use Rattle.std.proofs.Common.{◌≡◌, ◌+◌, ◌++◌, ◌∷◌, [], List, ℕ, length, sym, subst, rules}
+use Rattle.std.proofs.Common.{◌≡◌, ◌+◌, ◌++◌, ◌∷◌, [], length, rules}
 use Rattle.std.specs.Prelude.{bytes_eq, if◌then◌else◌}
-use Rattle.ada_names.specs.declared.entry.Entry.{Entry}
 use Rattle.ada_names.specs.contracts.table.KeyPartialEq.TheImpl.{eq-value}
 use Rattle.ada_names.specs.Entries.{is_at, is_use_in, is_own}
-use Rattle.ada_names.specs.Tables.{Numbers, AddsFirst, AddsAll, Holds, test_name}
+use Rattle.ada_names.specs.Tables.{Numbers, AddsFirst, AddsAll, test_name}
 use Rattle.ada_names.proofs.Grown.{grown}
 use Rattle.ada_names.proofs.table.Table.with.Goals as goal
 

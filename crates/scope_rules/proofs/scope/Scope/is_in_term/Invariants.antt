@@ -1,4 +1,4 @@
-use Rattle.std.proofs.Common.{◌≡◌, length}
+use Rattle.std.proofs.Common.{◌≡◌}
 use Rattle.ada_names.specs.Sees.{in_term_from, is_in_term}
 use Rattle.scope_rules.proofs.scope.Scope.is_in_term.Given as goal
 
