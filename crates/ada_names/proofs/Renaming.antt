@@ -13,7 +13,7 @@ use Rattle.ada_names.specs.declared.entry.Space.{Space}
 use Rattle.ada_names.specs.declared.entry.Space.TheVariants as space
 use Rattle.ada_names.specs.Places.{◌▸◌, has_ended, is_in}
 use Rattle.ada_names.specs.Entries.{is_space, is_of, is_at, first_of, entry_at, is_use_in, uses_in}
-use Rattle.ada_names.specs.Sees.{only, is_visible, region_of, in_region, unit_of, declaration_unit, is_known_in, is_in_context, library_unit, earlier_unit, is_entry_of, is_in_trait, predefined_name, seen_from, directly, shown, used_package, shown_by, uses_from, Found, unseen, joined, shown_by_all, by_use, or_by_use, plainly, term_at, or_further, in_term_from, is_in_term, operator_named, object_first, named}
+use Rattle.ada_names.specs.Sees.{only, is_visible, region_of, in_region, unit_of, declaration_unit, is_known_in, is_in_context, library_unit, earlier_unit, is_entry_of, is_in_trait, predefined_name, seen_from, directly, shown, used_package, shown_by, uses_from, Found, unseen, joined, shown_by_all, by_use, or_else, plainly, term_at, or_further, in_term_from, is_in_term, operator_named, object_first, named}
 use Rattle.ada_names.specs.Laws.{renamed, Apart, IsApart, ClausesApart}
 
 module _ (at new : List ℕ) where
@@ -219,7 +219,7 @@ module _ (at new : List ℕ) where
       use_same = ap (shown_by_all (map f es) place name unseen) (uses_from_same (length place)) ∙ all_same (uses_from es place (length place)) (clauses_from (length place)) unseen
 
       plainly_same : plainly (map f es) place name ≡ plainly es place name
-      plainly_same = ap (λ (o : Option Entry). or_by_use o (by_use (map f es) place name)) (directly_same es name apart place) ∙ ap (or_by_use (directly es place name)) use_same
+      plainly_same = ap (λ (o : Option Entry). or_else o (by_use (map f es) place name)) (directly_same es name apart place) ∙ ap (or_else (directly es place name)) use_same
 
       pub named_same : named (map f es) place name ≡ named es place name
       named_same =

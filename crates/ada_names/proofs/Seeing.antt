@@ -9,7 +9,7 @@ use Rattle.ada_names.specs.declared.entry.Entry.{Entry}
 use Rattle.ada_names.specs.declared.entry.Space.TheVariants as space
 use Rattle.ada_names.specs.Places.{has_ended}
 use Rattle.ada_names.specs.Entries.{first_of, entry_at}
-use Rattle.ada_names.specs.Sees.{only, is_visible, is_in_context, region_of, in_region, library_unit, earlier_unit, predefined_name, seen_from, is_entry_of, directly, shown, used_package, shown_by, uses_from, Found, unseen, one, several, joined, shown_by_all, by_use, or_by_use, plainly, is_in_term, is_value, operator_named, operator_or, object_first, named}
+use Rattle.ada_names.specs.Sees.{only, is_visible, is_in_context, region_of, in_region, library_unit, earlier_unit, predefined_name, seen_from, is_entry_of, directly, shown, used_package, shown_by, uses_from, Found, unseen, one, several, joined, shown_by_all, by_use, or_else, plainly, is_in_term, is_value, operator_named, object_first, named}
 use Rattle.ada_names.specs.Laws.{Visible, in_region_round, in_library, named_by_with, by_use_of, operator_before}
 use Rattle.ada_names.specs.Laws as laws
 
@@ -90,13 +90,13 @@ module _ (es : List Entry) (place name : List ℕ) where
   plainly_visible : (e : Entry) → plainly es place name ≡ one e → Visible es place name e
   plainly_visible e = by (directly es place name) refl
     where
-      by : (o : Option Entry) → directly es place name ≡ o → or_by_use o (by_use es place name) ≡ one e → Visible es place name e
+      by : (o : Option Entry) → directly es place name ≡ o → or_else o (by_use es place name) ≡ one e → Visible es place name e
       by (Some x) is h = let equal : x ≡ e = cc in directly_visible e (is ∙ ap (λ (y : Entry). Some y) equal)
       by None is h = all_show (uses_from es place (length place)) unseen e (λ c has. has) (λ d no. absurd cc) h
 
   -- ---- terms
 
-  operator_visible : (e : Entry) (o : Option Entry) (found : Found) → operator_named es place name ≡ o → (found ≡ one e → Visible es place name e) → operator_or o found ≡ one e → Visible es place name e
+  operator_visible : (e : Entry) (o : Option Entry) (found : Found) → operator_named es place name ≡ o → (found ≡ one e → Visible es place name e) → or_else o found ≡ one e → Visible es place name e
   operator_visible e (Some x) found is plain h =
       let equal : x ≡ e = cc in
       let parts : (first_of es space.Operators [] name ≡ Some e) × (has_ended e.from place ≡ true) = only_is _ (first_of es space.Operators [] name) e (is ∙ ap (λ (y : Entry). Some y) equal) in
@@ -106,7 +106,7 @@ module _ (es : List Entry) (place name : List ℕ) where
   object_visible : (e : Entry) (found : Found) → (found ≡ one e → Visible es place name e) → object_first (operator_named es place name) found ≡ one e → Visible es place name e
   object_visible e (one x) plain h = by (is_value x.kind || is_none x.number) h
     where
-      by : (t : Bool) → (if t then one x else operator_or (operator_named es place name) (one x)) ≡ one e → Visible es place name e
+      by : (t : Bool) → (if t then one x else or_else (operator_named es place name) (one x)) ≡ one e → Visible es place name e
       by true h = plain h
       by false h = operator_visible e (operator_named es place name) (one x) refl plain h
   object_visible e unseen plain h = operator_visible e (operator_named es place name) unseen refl plain h

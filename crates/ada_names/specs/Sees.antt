@@ -132,13 +132,14 @@ shown_by_all es place name found (clause ∷ clauses) = shown_by_all es place na
 abbrev pub by_use : List Entry → List ℕ → List ℕ → Found
 by_use es place name = shown_by_all es place name unseen (uses_from es place (length place))
 
-abbrev pub or_by_use : Option Entry → Found → Found
-or_by_use (Some e) found = one e
-or_by_use None found = found
+-- the entry, and where there is none what else is found
+abbrev pub or_else : Option Entry → Found → Found
+or_else (Some e) found = one e
+or_else None found = found
 
 -- A direct declaration hides what `use` shows.
 abbrev pub plainly : List Entry → List ℕ → List ℕ → Found
-plainly es place name = or_by_use (directly es place name) (by_use es place name)
+plainly es place name = or_else (directly es place name) (by_use es place name)
 
 -- ---- terms of annotations
 
@@ -189,32 +190,24 @@ is_value _ = false
 abbrev pub operator_named : List Entry → List ℕ → List ℕ → Option Entry
 operator_named es place name = only (λ e. has_ended e.from place) (first_of es space.Operators [] name)
 
-abbrev pub operator_or : Option Entry → Found → Found
-operator_or (Some e) found = one e
-operator_or None found = found
-
 -- In a term an object comes first, and then an operator. A bound name, which has no number, hides both.
 abbrev pub object_first : Option Entry → Found → Found
-object_first operator (one e) = if is_value e.kind || is_none e.number then one e else operator_or operator (one e)
-object_first operator found = operator_or operator found
+object_first operator (one e) = if is_value e.kind || is_none e.number then one e else or_else operator (one e)
+object_first operator found = or_else operator found
 
 abbrev pub named : List Entry → List ℕ → List ℕ → Found
 named es place name = if is_in_term es place then object_first (operator_named es place name) (plainly es place name) else plainly es place name
 
 -- ---- a name of two parts
 
-abbrev pub found_if : Option Entry → Found
-found_if (Some e) = one e
-found_if None = unseen
-
 -- `P.X`: what the package P shows
 abbrev pub selected : List Entry → List ℕ → List ℕ → Found → Found
-selected es place name (one e) = if is_kind e.kind kind.Pack then found_if (shown es place name e) else unseen
+selected es place name (one e) = if is_kind e.kind kind.Pack then or_else (shown es place name e) unseen else unseen
 selected es place name found = found
 
 -- In a trait a mark names a visible type, which isn't private, of a package that stands earlier.
 abbrev pub type_shown : List Entry → List ℕ → List ℕ → Option Entry → Found
-type_shown es place name (Some pack) = if is_kind pack.kind kind.Pack then found_if (only (λ e. is_kind e.kind kind.TypeDecl) (shown es place name pack)) else unseen
+type_shown es place name (Some pack) = if is_kind pack.kind kind.Pack then or_else (only (λ e. is_kind e.kind kind.TypeDecl) (shown es place name pack)) unseen else unseen
 type_shown es place name None = unseen
 
 abbrev pub selected_in_trait : List Entry → List ℕ → List ℕ → List ℕ → Found → Found

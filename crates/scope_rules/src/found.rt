@@ -52,7 +52,7 @@ impl<'a> Found<'a> {
 
     /// A direct declaration hides it.
     pub fn or_direct(self, direct: Option<&'a Entry>) -> Found<'a>
-        ensures { found_copied result ≡ spec.or_by_use (option_copied direct.entry) (found_copied self.entry) }
+        ensures { found_copied result ≡ spec.or_else (option_copied direct.entry) (found_copied self.entry) }
     {
         match direct {
             Some(entry) => Found::One(entry),
