@@ -14,6 +14,8 @@ mod certificates;
 #[cfg(test)]
 mod edges;
 #[cfg(test)]
+mod names;
+#[cfg(test)]
 mod runs;
 #[cfg(test)]
 mod scripts;

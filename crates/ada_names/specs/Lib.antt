@@ -1,0 +1,8 @@
+pub mod Places
+pub mod Predefined
+pub mod Tables
+pub mod Entries
+pub mod Collecting
+pub mod Sees
+pub mod Repeats
+pub mod Laws

@@ -1,0 +1,785 @@
+// What names see, and which declarations stand where their name is taken, in two small documents.
+use ada_names::Table;
+use ada_tree::{DeclId, Kids, Kind, Lookup, Node};
+use base_kit::{Code, Memory, Names, Path, Place, Stop, Text};
+use scope_rules::{Scope, declared, distinct, resolve};
+use std::alloc::Global;
+use std::test::Fail;
+
+// The nodes of a tree, each before its kids: how deep it stands, its kind and its text.
+type Row = (usize, Kind, &'static str);
+
+// package P is
+//    type COLOR is (RED, GREEN); N : constant := 1; X : INTEGER := 0; E : exception;
+//    procedure Q (A : in INTEGER; B : in INTEGER);
+// private
+//    H : constant := 1;
+// end P;
+// package body P is
+//    procedure Q (A : in INTEGER; B : in INTEGER) is
+//       N : INTEGER := X;
+//    begin
+//       for I in 1 .. 2 loop
+//          declare K : INTEGER := I; begin null; end;
+//          declare K : INTEGER := 0; begin null; end;
+//       end loop;
+//    end Q;
+// end P;
+// package S is N, M : constant := 1; end S;
+// with P, S; use S, P;
+// procedure T (V : in out INTEGER) is begin V := M; end T;
+// --| trait L is introduces F : -> INT; V : -> INT;
+// --|    asserts for all X : INT F == 1; implies for all X : INT FACT : F = 1; end trait;
+// procedure U (V : in INTEGER)
+// --| where in for all X in 1 .. 2 : V = F; end where;
+// is begin null; end U;
+const UNITS: &[Row] = &[
+    (0, Kind::Doc, ""),
+    (1, Kind::File, ""),
+    (2, Kind::Unit, ""),
+    (3, Kind::List, ""),
+    (3, Kind::Pack, "P"),
+    (4, Kind::List, ""),
+    (5, Kind::TypeDecl, "COLOR"),
+    (6, Kind::Enum, ""),
+    (7, Kind::List, ""),
+    (8, Kind::Id, "RED"),
+    (8, Kind::Id, "GREEN"),
+    (5, Kind::Num, ""),
+    (6, Kind::List, ""),
+    (7, Kind::Id, "N"),
+    (6, Kind::Int, "1"),
+    (5, Kind::Obj, ""),
+    (6, Kind::List, ""),
+    (7, Kind::Id, "X"),
+    (6, Kind::Name, "INTEGER"),
+    (6, Kind::None, ""),
+    (6, Kind::Int, "0"),
+    (5, Kind::Exc, ""),
+    (6, Kind::List, ""),
+    (7, Kind::Id, "E"),
+    (5, Kind::SubDecl, ""),
+    (6, Kind::Proc, "Q"),
+    (7, Kind::Formals, ""),
+    (8, Kind::List, ""),
+    (9, Kind::Formal, "in"),
+    (10, Kind::List, ""),
+    (11, Kind::Id, "A"),
+    (10, Kind::Name, "INTEGER"),
+    (9, Kind::Formal, "in"),
+    (10, Kind::List, ""),
+    (11, Kind::Id, "B"),
+    (10, Kind::Name, "INTEGER"),
+    (6, Kind::None, ""),
+    (4, Kind::List, ""),
+    (5, Kind::Num, ""),
+    (6, Kind::List, ""),
+    (7, Kind::Id, "H"),
+    (6, Kind::Int, "1"),
+    (2, Kind::Unit, ""),
+    (3, Kind::List, ""),
+    (3, Kind::Body, "P"),
+    (4, Kind::List, ""),
+    (5, Kind::SubBody, "Q"),
+    (6, Kind::Proc, "Q"),
+    (7, Kind::Formals, ""),
+    (8, Kind::List, ""),
+    (9, Kind::Formal, "in"),
+    (10, Kind::List, ""),
+    (11, Kind::Id, "A"),
+    (10, Kind::Name, "INTEGER"),
+    (9, Kind::Formal, "in"),
+    (10, Kind::List, ""),
+    (11, Kind::Id, "B"),
+    (10, Kind::Name, "INTEGER"),
+    (6, Kind::None, ""),
+    (6, Kind::List, ""),
+    (7, Kind::Obj, ""),
+    (8, Kind::List, ""),
+    (9, Kind::Id, "N"),
+    (8, Kind::Name, "INTEGER"),
+    (8, Kind::None, ""),
+    (8, Kind::Name, "X"),
+    (6, Kind::Seq, ""),
+    (7, Kind::List, ""),
+    (8, Kind::Loop, ""),
+    (9, Kind::For, "I"),
+    (10, Kind::Span, ""),
+    (11, Kind::Int, "1"),
+    (11, Kind::Int, "2"),
+    (9, Kind::None, ""),
+    (9, Kind::List, ""),
+    (10, Kind::Block, ""),
+    (11, Kind::List, ""),
+    (12, Kind::Obj, ""),
+    (13, Kind::List, ""),
+    (14, Kind::Id, "K"),
+    (13, Kind::Name, "INTEGER"),
+    (13, Kind::None, ""),
+    (13, Kind::Name, "I"),
+    (11, Kind::Seq, ""),
+    (12, Kind::List, ""),
+    (13, Kind::Null, ""),
+    (12, Kind::None, ""),
+    (10, Kind::Block, ""),
+    (11, Kind::List, ""),
+    (12, Kind::Obj, ""),
+    (13, Kind::List, ""),
+    (14, Kind::Id, "K"),
+    (13, Kind::Name, "INTEGER"),
+    (13, Kind::None, ""),
+    (13, Kind::Int, "0"),
+    (11, Kind::Seq, ""),
+    (12, Kind::List, ""),
+    (13, Kind::Null, ""),
+    (12, Kind::None, ""),
+    (7, Kind::None, ""),
+    (2, Kind::Unit, ""),
+    (3, Kind::List, ""),
+    (3, Kind::Pack, "S"),
+    (4, Kind::List, ""),
+    (5, Kind::Num, ""),
+    (6, Kind::List, ""),
+    (7, Kind::Id, "N"),
+    (7, Kind::Id, "M"),
+    (6, Kind::Int, "1"),
+    (4, Kind::None, ""),
+    (2, Kind::Unit, ""),
+    (3, Kind::List, ""),
+    (4, Kind::With, ""),
+    (5, Kind::List, ""),
+    (6, Kind::Name, "P"),
+    (6, Kind::Name, "S"),
+    (4, Kind::Use, ""),
+    (5, Kind::List, ""),
+    (6, Kind::Name, "S"),
+    (6, Kind::Name, "P"),
+    (3, Kind::SubBody, "T"),
+    (4, Kind::Proc, "T"),
+    (5, Kind::Formals, ""),
+    (6, Kind::List, ""),
+    (7, Kind::Formal, "in out"),
+    (8, Kind::List, ""),
+    (9, Kind::Id, "V"),
+    (8, Kind::Name, "INTEGER"),
+    (4, Kind::None, ""),
+    (4, Kind::List, ""),
+    (4, Kind::Seq, ""),
+    (5, Kind::List, ""),
+    (6, Kind::Assign, ""),
+    (7, Kind::Name, "V"),
+    (7, Kind::Name, "M"),
+    (5, Kind::None, ""),
+    (2, Kind::Trait, "L"),
+    (3, Kind::List, ""),
+    (3, Kind::List, ""),
+    (4, Kind::Op, "F"),
+    (5, Kind::List, ""),
+    (5, Kind::Name, "INT"),
+    (4, Kind::Op, "V"),
+    (5, Kind::List, ""),
+    (5, Kind::Name, "INT"),
+    (3, Kind::List, ""),
+    (3, Kind::List, ""),
+    (4, Kind::Vars, ""),
+    (5, Kind::List, ""),
+    (6, Kind::Id, "X"),
+    (5, Kind::Name, "INT"),
+    (3, Kind::List, ""),
+    (4, Kind::Eqn, ""),
+    (5, Kind::Name, "F"),
+    (5, Kind::Int, "1"),
+    (3, Kind::List, ""),
+    (4, Kind::Vars, ""),
+    (5, Kind::List, ""),
+    (6, Kind::Id, "X"),
+    (5, Kind::Name, "INT"),
+    (3, Kind::List, ""),
+    (4, Kind::Lemma, "FACT"),
+    (5, Kind::Binary, "="),
+    (6, Kind::Name, "F"),
+    (6, Kind::Int, "1"),
+    (2, Kind::Unit, ""),
+    (3, Kind::List, ""),
+    (3, Kind::SubBody, "U"),
+    (4, Kind::Proc, "U"),
+    (5, Kind::Formals, ""),
+    (6, Kind::List, ""),
+    (7, Kind::Formal, "in"),
+    (8, Kind::List, ""),
+    (9, Kind::Id, "V"),
+    (8, Kind::Name, "INTEGER"),
+    (4, Kind::Where, ""),
+    (5, Kind::List, ""),
+    (6, Kind::In, ""),
+    (7, Kind::All, "X"),
+    (8, Kind::Int, "1"),
+    (8, Kind::Int, "2"),
+    (8, Kind::Binary, "="),
+    (9, Kind::Name, "V"),
+    (9, Kind::Name, "F"),
+    (4, Kind::List, ""),
+    (4, Kind::Seq, ""),
+    (5, Kind::List, ""),
+    (6, Kind::Null, ""),
+    (5, Kind::None, ""),
+];
+
+// The prefix or nothing, the name, the place, and what the name sees there.
+type Seen = (
+    &'static str,
+    &'static str,
+    &'static [u32],
+    Result<u32, Code>,
+);
+
+const SEEN: &[Seen] = &[
+    // Not inside its own declaration; after it, before the outer one.
+    ("", "N", &[0, 1, 1, 0, 0, 2, 0, 3], Ok(13)),
+    ("", "N", &[0, 1, 1, 0, 0, 3, 0, 0], Ok(22)),
+    ("P", "N", &[0, 1, 1, 0, 0, 3, 0, 0], Ok(13)),
+    // A loop parameter isn't seen in its range.
+    ("", "I", &[0, 1, 1, 0, 0, 3, 0, 0, 0, 0], Err(Code::F05)),
+    ("", "I", &[0, 1, 1, 0, 0, 3, 0, 0, 2, 0, 0, 0, 3], Ok(23)),
+    // Blocks beside each other.
+    (
+        "",
+        "K",
+        &[0, 1, 1, 0, 0, 3, 0, 0, 2, 0, 0, 0, 3],
+        Err(Code::F05),
+    ),
+    ("", "K", &[0, 1, 1, 0, 0, 3, 0, 0, 2, 0, 1, 0, 0], Ok(24)),
+    ("", "K", &[0, 1, 1, 0, 0, 3, 0, 0, 2, 1, 1, 0, 0], Ok(25)),
+    // The formals of a body are its own, and it has its declaration's number.
+    ("", "A", &[0, 0, 1, 0, 4, 0, 0, 0, 1, 1], Ok(17)),
+    ("", "A", &[0, 1, 1, 0, 0, 3, 0, 0], Ok(20)),
+    ("", "Q", &[0, 1, 1, 0, 0, 3, 0, 0], Ok(16)),
+    // A private part is seen in the body, and not from outside.
+    ("", "H", &[0, 1, 1, 0, 0, 3, 0, 0], Ok(19)),
+    ("P", "H", &[0, 3, 1, 3, 0, 0, 1], Err(Code::F05)),
+    // One used package, or two.
+    ("", "M", &[0, 3, 1, 3, 0, 0, 1], Ok(28)),
+    ("", "GREEN", &[0, 3, 1, 3, 0, 0, 1], Ok(12)),
+    ("", "N", &[0, 3, 1, 3, 0, 0, 1], Err(Code::F07)),
+    ("P", "N", &[0, 3, 1, 3, 0, 0, 1], Ok(13)),
+    ("S", "N", &[0, 3, 1, 3, 0, 0, 1], Ok(27)),
+    ("", "V", &[0, 3, 1, 3, 0, 0, 0], Ok(30)),
+    ("", "T", &[0, 3, 1, 3, 0, 0, 0], Ok(29)),
+    // Context clauses.
+    ("", "P", &[0, 3, 0, 0, 0, 0], Ok(9)),
+    ("", "S", &[0, 3, 0, 1, 0, 0], Ok(26)),
+    ("", "T", &[0, 3, 0, 0, 0, 0], Err(Code::F05)),
+    ("", "P", &[0, 1, 0, 0, 0, 0], Ok(9)),
+    ("", "S", &[0, 1, 1, 0, 0, 3, 0, 0], Err(Code::F05)),
+    ("S", "M", &[0, 1, 1, 0, 0, 3, 0, 0], Err(Code::F05)),
+    // Inside a package its name shows what has ended.
+    ("P", "RED", &[0, 0, 1, 0, 1, 1], Ok(11)),
+    ("P", "X", &[0, 0, 1, 0, 1, 1], Err(Code::F05)),
+    // The predefined names are no package's.
+    ("", "INTEGER", &[0, 0, 1, 0, 2, 1], Ok(0)),
+    ("", "PROGRAM_ERROR", &[0, 5, 1, 3, 0, 0], Ok(8)),
+    ("P", "INTEGER", &[0, 3, 1, 3, 0, 0, 1], Err(Code::F05)),
+    // In a term an object comes first, then an operator; a bound name is no declaration.
+    ("", "F", &[0, 5, 1, 1, 0, 0, 0, 2, 1], Ok(31)),
+    ("", "F", &[0, 5, 1, 3, 0, 0], Err(Code::F05)),
+    ("", "V", &[0, 5, 1, 1, 0, 0, 0, 2, 0], Ok(34)),
+    ("", "X", &[0, 5, 1, 1, 0, 0, 0, 2, 0], Err(Code::F05)),
+    // In a trait.
+    ("", "F", &[0, 4, 4, 0, 0], Ok(31)),
+    ("", "X", &[0, 4, 4, 0, 1], Err(Code::F05)),
+    ("", "TRUE", &[0, 4, 4, 0, 1], Ok(5)),
+    ("", "INTEGER", &[0, 4, 4, 0, 1], Err(Code::F05)),
+    ("P", "COLOR", &[0, 4, 1, 0, 1], Ok(10)),
+    ("P", "N", &[0, 4, 1, 0, 1], Err(Code::F05)),
+];
+
+// package P is
+//    N : constant := 1; type T is private; procedure Q; procedure Q;
+//    type R is record A : INTEGER; A : INTEGER; end record;
+// private
+//    type T is range 0 .. 9; type T is range 0 .. 9;
+// end P;
+// package body P is
+//    N : constant := 1;
+//    procedure Q is begin null; end Q;
+//    procedure Q is begin null; end Q;
+// end P;
+// package body P is end P;
+// package body Z is end Z;
+// procedure W (X : in INTEGER) is
+//    N : INTEGER := 0;
+// begin
+//    declare X : INTEGER := 0; begin null; end;
+//    declare type C is (N); begin null; end;
+//    for N in 1 .. 2 loop null; end loop;
+//    declare M : constant := 1; begin declare M : INTEGER := 0; begin null; end; end;
+//    declare K : INTEGER := 0; begin null; end;
+//    declare K : INTEGER := 0; begin null; end;
+// end W;
+// --| trait L is introduces F : -> INT; F : -> INT;
+// --|    asserts for all X : INT; X : INT implies A : TRUE; A : TRUE; end trait;
+// --| trait L is end trait;
+// procedure W;
+const REPEATS: &[Row] = &[
+    (0, Kind::Doc, ""),
+    (1, Kind::File, ""),
+    (2, Kind::Unit, ""),
+    (3, Kind::List, ""),
+    (3, Kind::Pack, "P"),
+    (4, Kind::List, ""),
+    (5, Kind::Num, ""),
+    (6, Kind::List, ""),
+    (7, Kind::Id, "N"),
+    (6, Kind::Int, "1"),
+    (5, Kind::Private, "T"),
+    (6, Kind::Based, ""),
+    (7, Kind::Name, "INT"),
+    (5, Kind::SubDecl, ""),
+    (6, Kind::Proc, "Q"),
+    (7, Kind::None, ""),
+    (6, Kind::None, ""),
+    (5, Kind::SubDecl, ""),
+    (6, Kind::Proc, "Q"),
+    (7, Kind::None, ""),
+    (6, Kind::None, ""),
+    (5, Kind::TypeDecl, "R"),
+    (6, Kind::Rec, ""),
+    (7, Kind::List, ""),
+    (8, Kind::Comp, ""),
+    (9, Kind::List, ""),
+    (10, Kind::Id, "A"),
+    (9, Kind::Name, "INTEGER"),
+    (8, Kind::Comp, ""),
+    (9, Kind::List, ""),
+    (10, Kind::Id, "A"),
+    (9, Kind::Name, "INTEGER"),
+    (4, Kind::List, ""),
+    (5, Kind::TypeDecl, "T"),
+    (6, Kind::Range, ""),
+    (7, Kind::Int, "0"),
+    (7, Kind::Int, "9"),
+    (5, Kind::TypeDecl, "T"),
+    (6, Kind::Range, ""),
+    (7, Kind::Int, "0"),
+    (7, Kind::Int, "9"),
+    (2, Kind::Unit, ""),
+    (3, Kind::List, ""),
+    (3, Kind::Body, "P"),
+    (4, Kind::List, ""),
+    (5, Kind::Num, ""),
+    (6, Kind::List, ""),
+    (7, Kind::Id, "N"),
+    (6, Kind::Int, "1"),
+    (5, Kind::SubBody, "Q"),
+    (6, Kind::Proc, "Q"),
+    (7, Kind::None, ""),
+    (6, Kind::None, ""),
+    (6, Kind::List, ""),
+    (6, Kind::Seq, ""),
+    (7, Kind::List, ""),
+    (8, Kind::Null, ""),
+    (7, Kind::None, ""),
+    (5, Kind::SubBody, "Q"),
+    (6, Kind::Proc, "Q"),
+    (7, Kind::None, ""),
+    (6, Kind::None, ""),
+    (6, Kind::List, ""),
+    (6, Kind::Seq, ""),
+    (7, Kind::List, ""),
+    (8, Kind::Null, ""),
+    (7, Kind::None, ""),
+    (2, Kind::Unit, ""),
+    (3, Kind::List, ""),
+    (3, Kind::Body, "P"),
+    (4, Kind::List, ""),
+    (2, Kind::Unit, ""),
+    (3, Kind::List, ""),
+    (3, Kind::Body, "Z"),
+    (4, Kind::List, ""),
+    (2, Kind::Unit, ""),
+    (3, Kind::List, ""),
+    (3, Kind::SubBody, "W"),
+    (4, Kind::Proc, "W"),
+    (5, Kind::Formals, ""),
+    (6, Kind::List, ""),
+    (7, Kind::Formal, "in"),
+    (8, Kind::List, ""),
+    (9, Kind::Id, "X"),
+    (8, Kind::Name, "INTEGER"),
+    (4, Kind::None, ""),
+    (4, Kind::List, ""),
+    (5, Kind::Obj, ""),
+    (6, Kind::List, ""),
+    (7, Kind::Id, "N"),
+    (6, Kind::Name, "INTEGER"),
+    (6, Kind::None, ""),
+    (6, Kind::Int, "0"),
+    (4, Kind::Seq, ""),
+    (5, Kind::List, ""),
+    (6, Kind::Block, ""),
+    (7, Kind::List, ""),
+    (8, Kind::Obj, ""),
+    (9, Kind::List, ""),
+    (10, Kind::Id, "X"),
+    (9, Kind::Name, "INTEGER"),
+    (9, Kind::None, ""),
+    (9, Kind::Int, "0"),
+    (7, Kind::Seq, ""),
+    (8, Kind::List, ""),
+    (9, Kind::Null, ""),
+    (8, Kind::None, ""),
+    (6, Kind::Block, ""),
+    (7, Kind::List, ""),
+    (8, Kind::TypeDecl, "C"),
+    (9, Kind::Enum, ""),
+    (10, Kind::List, ""),
+    (11, Kind::Id, "N"),
+    (7, Kind::Seq, ""),
+    (8, Kind::List, ""),
+    (9, Kind::Null, ""),
+    (8, Kind::None, ""),
+    (6, Kind::Loop, ""),
+    (7, Kind::For, "N"),
+    (8, Kind::Span, ""),
+    (9, Kind::Int, "1"),
+    (9, Kind::Int, "2"),
+    (7, Kind::None, ""),
+    (7, Kind::List, ""),
+    (8, Kind::Null, ""),
+    (6, Kind::Block, ""),
+    (7, Kind::List, ""),
+    (8, Kind::Num, ""),
+    (9, Kind::List, ""),
+    (10, Kind::Id, "M"),
+    (9, Kind::Int, "1"),
+    (7, Kind::Seq, ""),
+    (8, Kind::List, ""),
+    (9, Kind::Block, ""),
+    (10, Kind::List, ""),
+    (11, Kind::Obj, ""),
+    (12, Kind::List, ""),
+    (13, Kind::Id, "M"),
+    (12, Kind::Name, "INTEGER"),
+    (12, Kind::None, ""),
+    (12, Kind::Int, "0"),
+    (10, Kind::Seq, ""),
+    (11, Kind::List, ""),
+    (12, Kind::Null, ""),
+    (11, Kind::None, ""),
+    (8, Kind::None, ""),
+    (6, Kind::Block, ""),
+    (7, Kind::List, ""),
+    (8, Kind::Obj, ""),
+    (9, Kind::List, ""),
+    (10, Kind::Id, "K"),
+    (9, Kind::Name, "INTEGER"),
+    (9, Kind::None, ""),
+    (9, Kind::Int, "0"),
+    (7, Kind::Seq, ""),
+    (8, Kind::List, ""),
+    (9, Kind::Null, ""),
+    (8, Kind::None, ""),
+    (6, Kind::Block, ""),
+    (7, Kind::List, ""),
+    (8, Kind::Obj, ""),
+    (9, Kind::List, ""),
+    (10, Kind::Id, "K"),
+    (9, Kind::Name, "INTEGER"),
+    (9, Kind::None, ""),
+    (9, Kind::Int, "0"),
+    (7, Kind::Seq, ""),
+    (8, Kind::List, ""),
+    (9, Kind::Null, ""),
+    (8, Kind::None, ""),
+    (5, Kind::None, ""),
+    (2, Kind::Trait, "L"),
+    (3, Kind::List, ""),
+    (3, Kind::List, ""),
+    (4, Kind::Op, "F"),
+    (5, Kind::List, ""),
+    (5, Kind::Name, "INT"),
+    (4, Kind::Op, "F"),
+    (5, Kind::List, ""),
+    (5, Kind::Name, "INT"),
+    (3, Kind::List, ""),
+    (3, Kind::List, ""),
+    (4, Kind::Vars, ""),
+    (5, Kind::List, ""),
+    (6, Kind::Id, "X"),
+    (5, Kind::Name, "INT"),
+    (4, Kind::Vars, ""),
+    (5, Kind::List, ""),
+    (6, Kind::Id, "X"),
+    (5, Kind::Name, "INT"),
+    (3, Kind::List, ""),
+    (3, Kind::List, ""),
+    (3, Kind::List, ""),
+    (4, Kind::Lemma, "A"),
+    (5, Kind::Name, "TRUE"),
+    (4, Kind::Lemma, "A"),
+    (5, Kind::Name, "TRUE"),
+    (2, Kind::Trait, "L"),
+    (3, Kind::List, ""),
+    (3, Kind::List, ""),
+    (3, Kind::List, ""),
+    (3, Kind::List, ""),
+    (3, Kind::List, ""),
+    (3, Kind::List, ""),
+    (3, Kind::List, ""),
+    (2, Kind::Unit, ""),
+    (3, Kind::List, ""),
+    (3, Kind::SubDecl, ""),
+    (4, Kind::Proc, "W"),
+    (5, Kind::None, ""),
+    (4, Kind::None, ""),
+];
+
+// The path of a declared name, the number that `declared` answers, and whether the name stands once.
+type Declared = (&'static [u32], Result<u32, Code>, bool);
+
+const DECLARED: &[Declared] = &[
+    (&[0, 0, 1], Ok(9), true),
+    (&[0, 0, 1, 0, 0, 0, 0], Ok(10), true),
+    (&[0, 0, 1, 0, 1], Ok(11), true),
+    (&[0, 0, 1, 0, 2, 0], Ok(12), true),
+    (&[0, 0, 1, 0, 3, 0], Err(Code::F06), false),
+    (&[0, 0, 1, 0, 4], Ok(14), true),
+    // Components have no numbers.
+    (&[0, 0, 1, 0, 4, 0, 0, 0, 0, 0], Err(Code::F05), true),
+    (&[0, 0, 1, 0, 4, 0, 0, 1, 0, 0], Err(Code::F06), false),
+    // The full type has the private one's number; there is one.
+    (&[0, 0, 1, 1, 0], Ok(11), true),
+    (&[0, 0, 1, 1, 1], Err(Code::F06), false),
+    // A package's body goes on with its region.
+    (&[0, 1, 1], Ok(9), true),
+    (&[0, 1, 1, 0, 0, 0, 0], Err(Code::F06), false),
+    (&[0, 1, 1, 0, 1, 0], Ok(12), true),
+    (&[0, 1, 1, 0, 2, 0], Err(Code::F06), false),
+    (&[0, 2, 1], Err(Code::F06), false),
+    (&[0, 3, 1], Err(Code::F05), true),
+    (&[0, 4, 1, 0], Ok(16), true),
+    (&[0, 4, 1, 0, 0, 0, 0, 0, 0], Ok(17), true),
+    // No hiding of objects of the subprogram, but of numbers and in blocks beside each other.
+    (&[0, 4, 1, 3, 0, 0, 0, 0, 0, 0], Err(Code::F06), false),
+    (&[0, 4, 1, 3, 0, 1, 0, 0], Ok(20), true),
+    (&[0, 4, 1, 3, 0, 1, 0, 0, 0, 0, 0], Err(Code::F06), false),
+    (&[0, 4, 1, 3, 0, 2, 0], Err(Code::F06), false),
+    (&[0, 4, 1, 3, 0, 3, 1, 0, 0, 0, 0, 0, 0], Ok(24), true),
+    (&[0, 4, 1, 3, 0, 4, 0, 0, 0, 0], Ok(25), true),
+    (&[0, 4, 1, 3, 0, 5, 0, 0, 0, 0], Ok(26), true),
+    // Traits, operators, variables and lemmas.
+    (&[0, 5], Err(Code::F05), true),
+    (&[0, 5, 1, 0], Ok(27), true),
+    (&[0, 5, 1, 1], Err(Code::F06), false),
+    (&[0, 5, 3, 0, 0, 0], Err(Code::F05), true),
+    (&[0, 5, 3, 1, 0, 0], Err(Code::F06), false),
+    (&[0, 5, 6, 0], Err(Code::F05), true),
+    (&[0, 5, 6, 1], Err(Code::F06), false),
+    (&[0, 6], Err(Code::F06), false),
+    (&[0, 7, 1, 0], Err(Code::F06), false),
+    // Nothing is declared there.
+    (&[], Err(Code::F05), true),
+    (&[0, 0, 1, 0, 0], Err(Code::F05), true),
+];
+
+// A number, and the path of its declaration.
+const PLACES: &[(u32, Option<&'static [u32]>)] = &[
+    (8, None),
+    (9, Some(&[0, 0, 1])),
+    (11, Some(&[0, 0, 1, 0, 1])),
+    (12, Some(&[0, 0, 1, 0, 2, 0])),
+    (13, Some(&[0, 0, 1, 0, 3, 0])),
+    (24, Some(&[0, 4, 1, 3, 0, 3, 1, 0, 0, 0, 0, 0, 0])),
+    (29, Some(&[0, 7, 1, 0])),
+    (30, None),
+];
+
+// A declaration of the units, and its number among the exceptions.
+const EXCEPTIONS: &[(u32, Option<usize>)] = &[
+    (6, Some(0)),
+    (8, Some(2)),
+    (14, None),
+    (15, Some(3)),
+];
+
+fn path(alloc: Global, numbers: &[u32]) -> Result<Path, Memory> {
+    Ok(Path(Vec::from_slice(alloc, numbers)?))
+}
+
+fn node(alloc: Global, kind: Kind, text: &str, kids: Kids) -> Result<Node, Memory> {
+    Ok(Node {
+        kind,
+        text: Text::from(Vec::from_slice(alloc, text.as_bytes())?),
+        notes: Names::new(alloc),
+        kids,
+    })
+}
+
+// The kids of a node at this depth: the last nodes that stand one deeper, in order.
+fn take_kids(alloc: Global, built: &mut Vec<(usize, Node)>, depth: usize) -> Result<Kids, Memory> {
+    let mut kids = Kids::new(alloc);
+    while let Some((deeper, kid)) = built.pop() {
+        if deeper <= depth {
+            built.push((deeper, kid))?;
+            return Ok(kids);
+        }
+        kids.push(kid)?;
+    }
+    Ok(kids)
+}
+
+// The tree of these rows.
+fn tree(alloc: Global, rows: &[Row]) -> Result<Option<Node>, Memory> {
+    let mut built = Vec::new(alloc);
+    for (depth, kind, text) in rows.iter().rev() {
+        let kids = take_kids(alloc, &mut built, *depth)?;
+        built.push((*depth, node(alloc, *kind, text, kids)?))?;
+    }
+    Ok(built.pop().map(|(_, root)| root))
+}
+
+fn scope(alloc: Global, rows: &[Row]) -> Result<Option<Scope>, Memory> {
+    match tree(alloc, rows)? {
+        Some(root) => Ok(Some(Scope::of_root(alloc, &root)?)),
+        None => Ok(None),
+    }
+}
+
+fn name(alloc: Global, prefix: &str, name: &str) -> Result<Node, Memory> {
+    let mut kids = Kids::new(alloc);
+    if prefix.is_empty() {
+        return node(alloc, Kind::Name, name, kids);
+    }
+    let first = node(alloc, Kind::Name, prefix, Kids::new(alloc))?;
+    kids.push(first)?;
+    node(alloc, Kind::Select, name, kids)
+}
+
+// Whether a call answered this: a number, or a fault at the path.
+fn answers(answer: Result<DeclId, Stop>, at: &[u32], wanted: Result<u32, Code>) -> bool {
+    match (answer, wanted) {
+        (Ok(id), Ok(number)) => id.0 == number,
+        (Err(stop), Err(code)) => is_fault(stop, at, code),
+        _ => false,
+    }
+}
+
+fn is_path(path: &Path, numbers: &[u32]) -> bool {
+    path.0.as_slice() == numbers
+}
+
+fn is_fault(stop: Stop, at: &[u32], code: Code) -> bool {
+    let Stop::Fault(fault) = stop else {
+        return false;
+    };
+    let given = fault.code;
+    match fault.place {
+        Place::At(path) => given == code && is_path(&path, at),
+        Place::Line(_, _) => false,
+    }
+}
+
+fn sees(alloc: Global, scope: &Scope, row: &Seen) -> Result<bool, Memory> {
+    let mark = name(alloc, row.0, row.1)?;
+    let at = path(alloc, row.2)?;
+    Ok(
+        answers(resolve(scope, &mark, &at), row.2, row.3)
+            && answers(scope.find(&mark, &at), row.2, row.3),
+    )
+}
+
+fn first_unseen(alloc: Global) -> Result<usize, Memory> {
+    let Some(scope) = scope(alloc, UNITS)? else {
+        return Ok(0);
+    };
+    for (number, row) in SEEN.iter().enumerate() {
+        if !sees(alloc, &scope, row)? {
+            return Ok(number);
+        }
+    }
+    Ok(SEEN.len())
+}
+
+fn is_declared(alloc: Global, scope: &Scope, row: &Declared) -> Result<bool, Memory> {
+    let at = path(alloc, row.0)?;
+    let once = match distinct(scope, &at) {
+        Ok(()) => row.2,
+        Err(stop) => !row.2 && is_fault(stop, row.0, Code::F06),
+    };
+    Ok(once && answers(declared(scope, &at), row.0, row.1))
+}
+
+fn first_undeclared(alloc: Global) -> Result<usize, Memory> {
+    let Some(scope) = scope(alloc, REPEATS)? else {
+        return Ok(0);
+    };
+    for (number, row) in DECLARED.iter().enumerate() {
+        if !is_declared(alloc, &scope, row)? {
+            return Ok(number);
+        }
+    }
+    Ok(DECLARED.len())
+}
+
+fn is_placed(
+    alloc: Global,
+    table: &Table,
+    number: u32,
+    at: Option<&[u32]>,
+) -> Result<bool, Memory> {
+    Ok(match (table.place_of(alloc, DeclId(number))?, at) {
+        (Some(path), Some(numbers)) => is_path(&path, numbers),
+        (None, None) => true,
+        _ => false,
+    })
+}
+
+fn first_misplaced(alloc: Global) -> Result<usize, Memory> {
+    let Some(root) = tree(alloc, REPEATS)? else {
+        return Ok(0);
+    };
+    let table = Table::of_root(alloc, &root)?;
+    for (index, (number, at)) in PLACES.iter().enumerate() {
+        if !is_placed(alloc, &table, *number, *at)? {
+            return Ok(index);
+        }
+    }
+    Ok(PLACES.len())
+}
+
+fn first_misnumbered(alloc: Global) -> Result<usize, Memory> {
+    let Some(root) = tree(alloc, UNITS)? else {
+        return Ok(0);
+    };
+    let table = Table::of_root(alloc, &root)?;
+    for (index, (number, exception)) in EXCEPTIONS.iter().enumerate() {
+        if table.exception_number(DeclId(*number)) != *exception {
+            return Ok(index);
+        }
+    }
+    Ok(EXCEPTIONS.len())
+}
+
+#[test]
+fn names_see_what_is_visible(rt: HostRuntime) -> Result<(), Fail> {
+    assert_eq!(rt; first_unseen(rt.alloc())?, SEEN.len());
+    Ok(())
+}
+
+#[test]
+fn declarations_have_their_numbers_or_are_refused(rt: HostRuntime) -> Result<(), Fail> {
+    assert_eq!(rt; first_undeclared(rt.alloc())?, DECLARED.len());
+    Ok(())
+}
+
+#[test]
+fn numbers_lead_to_places(rt: HostRuntime) -> Result<(), Fail> {
+    assert_eq!(rt; first_misplaced(rt.alloc())?, PLACES.len());
+    Ok(())
+}
+
+#[test]
+fn exceptions_have_numbers_of_their_own(rt: HostRuntime) -> Result<(), Fail> {
+    assert_eq!(rt; first_misnumbered(rt.alloc())?, EXCEPTIONS.len());
+    Ok(())
+}

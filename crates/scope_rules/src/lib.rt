@@ -1,0 +1,15 @@
+//! What names see, and which declarations are duplicates.
+#![tactic(auto)]
+
+mod claims;
+mod context;
+mod found;
+mod outward;
+mod resolving;
+mod scope;
+mod terms;
+mod used;
+
+pub use claims::{declared, distinct};
+pub use resolving::resolve;
+pub use scope::Scope;
