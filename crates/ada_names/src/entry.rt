@@ -36,6 +36,7 @@ pub struct Entry {
     /// The kind of the declaration: `Obj` for the name of a variable, `SubBody` for that of a subprogram
     /// in its body, `For` for a loop parameter.
     pub kind: Kind,
+    /// In upper case; empty where a term begins.
     pub name: Text,
     /// The node that holds the name.
     pub place: Path,
@@ -47,6 +48,7 @@ pub struct Entry {
     pub from: Path,
     /// The subprogram round the region or at it; the empty path where there is none.
     pub within: Path,
+    /// The number of the declaration, shared by what completes it; None where it has none.
     pub number: Option<DeclId>,
 }
 
