@@ -252,9 +252,11 @@ fn is_closed(sequent: &Sequent, coeffs: &[i64]) -> bool
     keeps_rules(sequent, coeffs) && is_positive(sequent, coeffs) && are_atoms_right(sequent, coeffs)
 }
 
-/// Whether the sequent's facts, weighed by the coefficients, add up to a contradiction. The first
-/// coefficient weighs the negation of the goal, and each further one the hypothesis of its number.
-/// It takes no memory.
+/// Whether the sequent's facts, weighed by the coefficients, add up to a contradiction, by the rule
+/// `linear` (docs/proof-rules.md). The first coefficient weighs the negation of the goal, and each
+/// further one the hypothesis of its number; missing ones are 0. The answer is false where a rule on
+/// coefficients is broken, the sum is no contradiction, or a number is too large. It is exact for
+/// every sequent, also for one that isn't well sorted. It takes no memory.
 pub fn closes(sequent: &Sequent, coeffs: &[i64]) -> bool
     ensures { IsTrue result ↔ Closes sequent.now coeffs.now }
 {

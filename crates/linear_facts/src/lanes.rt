@@ -26,6 +26,7 @@ pub enum Part<'a> {
     Constant,
 }
 
+// What stands in the places of a window that nothing was put into.
 impl<'a> Default for Part<'a> {
     fn default() -> Part<'a> {
         Part::Constant
@@ -108,6 +109,7 @@ impl<'a> Part<'a> {
     }
 }
 
+// What stands in the places of a list of lanes that nothing was put into.
 impl<'a> Default for Lane<'a> {
     fn default() -> Lane<'a> {
         Lane::of(Part::Constant)
