@@ -1,11 +1,11 @@
 // Whether coefficients close a sequent.
-ghost use Rattle.std.specs.Prelude.{◌≡◌, ◌↔◌, ◌≤◌, ◌^◌, ◌*ℤ◌, pos, map, length, IsTrue, is_some, unsigned_abs, nat_le, nat_lt, count_by, not, ◌&&◌, ◌||◌};
+ghost use Rattle.std.specs.Prelude.{◌≡◌, ◌↔◌, ◌≤◌, pos, map, length, IsTrue, unsigned_abs, nat_le, nat_lt, count_by, not, ◌&&◌, ◌||◌};
 ghost use Rattle.std.specs.List.{All, list_all, list_any};
 ghost use Rattle.std.specs.Ordering.{int_eq};
 ghost use Rattle.term_core.specs.Operations.{is_zero};
 ghost use Rattle.linear_facts.specs.Closing.{Closes, may_weigh, each_may_weigh, weighed, weights};
-ghost use Rattle.linear_facts.specs.Views.{fact_behind, found, part_behind};
-ghost use Rattle.linear_facts.specs.Working.{keeps_rules, is_closed, with_weights, fact_number_at, fits_each, IsFresh, same_part, is_right, is_atom_right, is_contradiction, all_right, atoms_of, atoms_in, all_atoms};
+ghost use Rattle.linear_facts.specs.Views.{found, part_behind};
+ghost use Rattle.linear_facts.specs.Working.{keeps_rules, is_closed, with_weights, fits_each, IsFresh, same_part, is_right, is_atom_right, is_contradiction, all_right, atoms_of, all_atoms};
 
 use crate::bounds::{each_fits, is_light};
 use crate::facts::{Fact, fact_at};

@@ -1,5 +1,5 @@
 // Lanes, in which the numbers of parts of forms are added up.
-ghost use Rattle.std.specs.Prelude.{◌≡◌, ℕ, ◌%◌, ◌+ℤ◌, ◌*ℤ◌, neg_ℤ, pos, map, unsigned_abs, if◌then◌else◌};
+ghost use Rattle.std.specs.Prelude.{◌≡◌, ◌%◌, ◌+ℤ◌, ◌*ℤ◌, neg_ℤ, pos, map, if◌then◌else◌};
 ghost use Rattle.std.specs.Int.{int_wrap};
 ghost use mir.Syntax.{w128};
 ghost use Rattle.linear_facts.specs.Views.{fact_behind, part_behind};
