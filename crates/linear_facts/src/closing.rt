@@ -5,7 +5,9 @@ ghost use Rattle.std.specs.Ordering.{int_eq};
 ghost use Rattle.term_core.specs.Operations.{is_zero};
 ghost use Rattle.linear_facts.specs.Closing.{Closes, may_weigh, each_may_weigh, weighed, weights};
 ghost use Rattle.linear_facts.specs.Views.{found, part_behind};
-ghost use Rattle.linear_facts.specs.Working.{keeps_rules, is_closed, with_weights, fits_each, IsFresh, same_part, is_right, is_atom_right, is_contradiction, all_right, atoms_of, all_atoms};
+ghost use Rattle.linear_facts.specs.Asked.{keeps_rules, is_closed, is_right, is_atom_right, is_contradiction, all_right, atoms_of, all_atoms};
+ghost use Rattle.linear_facts.specs.Lanes.{with_weights, IsFresh, same_part};
+ghost use Rattle.linear_facts.specs.Numbers.{fits_each};
 
 use crate::bounds::{each_fits, is_light};
 use crate::facts::{Fact, fact_at};

@@ -3,7 +3,7 @@ ghost use Rattle.std.specs.Prelude.{◌≡◌, ◌%◌, ◌+ℤ◌, ◌*ℤ◌, 
 ghost use Rattle.std.specs.Int.{int_wrap};
 ghost use mir.Syntax.{w128};
 ghost use Rattle.linear_facts.specs.Views.{fact_behind, part_behind};
-ghost use Rattle.linear_facts.specs.Working.{mixed, mark_of, same_part, part_mark, is_lane_of, seen, seen_in, with_more, with_fact};
+ghost use Rattle.linear_facts.specs.Lanes.{mixed, mark_of, same_part, part_mark, is_lane_of, seen, seen_in, with_more, with_fact};
 ghost use Rattle.linear_facts.specs.Forms.{same_term};
 
 use crate::facts::Fact;
