@@ -14,9 +14,11 @@ use Rattle.term_core.specs.declared.term.Term.TheViews.{out-roll-Term}
 use Rattle.term_core.specs.Terms.{int}
 use Rattle.term_laws.proofs.Meanings.{parts_of, mapped_parts}
 use Rattle.linear_facts.specs.declared.limits.TheConstants.{MOST_NUMBER}
-use Rattle.linear_facts.specs.Facts.{Fact, form_of}
+use Rattle.linear_facts.specs.Facts.{Fact, form_of, left_of, right_of}
 use Rattle.linear_facts.specs.Forms.{Shape, literal, sum, difference, opposite, multiple, whole, literal_of, shaped, shape_of, within_shape, Part, atom, constant, Form, number, once, form_by, form, parts_by, taken_apart, same_term}
-use Rattle.linear_facts.specs.Working.{left_of, right_of, same_part, small, small_of, number_by, number_at, small_size, size_of_two, size_by, size_at, atoms_by, atoms_of}
+use Rattle.linear_facts.specs.Asked.{atoms_by, atoms_of}
+use Rattle.linear_facts.specs.Lanes.{same_part}
+use Rattle.linear_facts.specs.Numbers.{small, small_of, number_by, number_at, small_size, size_of_two, size_by, size_at}
 use Rattle.linear_facts.proofs.ShapeLaws.{Every, EachPart, over_is, over_at, by_shape}
 use Rattle.linear_facts.proofs.SumLaws.{once_is}
 

@@ -15,9 +15,11 @@ use Rattle.term_core.specs.declared.sequent.Sequent.{Sequent}
 use Rattle.term_core.specs.Operations.{is_zero}
 use Rattle.linear_facts.specs.declared.limits.TheConstants.{MOST_COEFFICIENT, MOST_NUMBER}
 use Rattle.linear_facts.specs.Closing.{each_may_weigh, weighed, weights_from, weights, total, IsBounded, Closes}
-use Rattle.linear_facts.specs.Facts.{Fact, at_most, below, equal_to, form_of, apart_in, fact_at}
+use Rattle.linear_facts.specs.Facts.{Fact, at_most, below, equal_to, form_of, apart_in, fact_at, left_of, right_of, extra_of}
 use Rattle.linear_facts.specs.Forms.{Part, atom, constant, number, form, taken_apart}
-use Rattle.linear_facts.specs.Working.{left_of, right_of, extra_of, same_part, number_at, fact_number_at, size_at, fact_size, fits_at, fit_at, is_right, is_atom_right, is_contradiction, atoms_of, atoms_in, all_atoms, keeps_rules, is_closed}
+use Rattle.linear_facts.specs.Asked.{fit_at, is_right, is_atom_right, is_contradiction, atoms_of, atoms_in, all_atoms, keeps_rules, is_closed}
+use Rattle.linear_facts.specs.Lanes.{same_part}
+use Rattle.linear_facts.specs.Numbers.{number_at, fact_number_at, size_at, fact_size, fits_at}
 use Rattle.linear_facts.proofs.SumLaws.{fact_form, same_part_is}
 use Rattle.linear_facts.proofs.ShapeLaws.{Every}
 use Rattle.linear_facts.proofs.BoundLaws.{every_append, every_left, every_right, every_all, all_every, SmallAt, WithinFact, small_two, both_found, found, finds, size_two, size_bounds, abs_product, at_most_literal, below_most, none_of, absent, no_size}

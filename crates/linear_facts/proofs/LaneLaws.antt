@@ -7,7 +7,7 @@ use mir.Syntax.{w128}
 use Rattle.term_core.specs.declared.term.Term.{Term}
 use Rattle.linear_facts.specs.declared.lanes.Lane.{Lane}
 use Rattle.linear_facts.specs.Forms.{Shape, literal, sum, difference, opposite, multiple, whole, shape_of, within_shape, atom, constant}
-use Rattle.linear_facts.specs.Working.{is_lane_of, part_mark, seen, seen_by, seen_in, with_more}
+use Rattle.linear_facts.specs.Lanes.{is_lane_of, part_mark, seen, seen_by, seen_in, with_more}
 use Rattle.linear_facts.proofs.Integers.{times-sum, times-opposite, opposite-times, times-times}
 use Rattle.linear_facts.proofs.ShapeLaws.{over_at}
 

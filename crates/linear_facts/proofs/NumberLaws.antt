@@ -5,7 +5,7 @@ use Rattle.std.specs.Option.{option_map, option_and_then}
 use Rattle.std.specs.List.{list_all}
 use Rattle.std.proofs.lemmas.List.{at_drop_more}
 use Rattle.term_core.specs.Options.{all_some}
-use Rattle.linear_facts.specs.Working.{small, small_of, small_first, small_pairs, small_lists, scaled_list, first_difference, small_differences, differences_fit}
+use Rattle.linear_facts.specs.Numbers.{small, small_of, small_first, small_pairs, small_lists, scaled_list, first_difference, small_differences, differences_fit}
 
 drop_one : {A : Type 0} (i : ℕ) (ys : List A) → drop 1 (drop i ys) ≡ drop (i + 1) ys
 drop_one i ys = drop-drop 1 i ys

@@ -18,10 +18,12 @@ use Rattle.base_kit.specs.Sameness.{same_decides}
 use Rattle.linear_facts.specs.declared.lanes.Lane.{Lane}
 use Rattle.linear_facts.specs.declared.lanes.Part as parts
 use Rattle.linear_facts.specs.Closing.{total}
-use Rattle.linear_facts.specs.Facts.{Fact, at_most, below, equal_to, form_of}
+use Rattle.linear_facts.specs.Facts.{Fact, at_most, below, equal_to, form_of, left_of, right_of, extra_of}
 use Rattle.linear_facts.specs.Forms.{Shape, literal, sum, difference, opposite, multiple, whole, shape_of, within_shape, Part, atom, constant, number, once, form_by, form}
 use Rattle.linear_facts.specs.Views.{part_behind}
-use Rattle.linear_facts.specs.Working.{left_of, right_of, extra_of, same_part, part_mark, is_lane_of, seen, seen_by, seen_in, with_fact, with_weights, small, small_of, number_by, number_at, fact_size, fact_number_at, small_lists, part_numbers, scaled_numbers, lane_numbers_by, lane_numbers, differences_fit, each_fits, fits_each, fits_parts, fit_at, is_right, IsFresh}
+use Rattle.linear_facts.specs.Asked.{fit_at, is_right}
+use Rattle.linear_facts.specs.Lanes.{same_part, part_mark, is_lane_of, seen, seen_by, seen_in, with_fact, with_weights, IsFresh}
+use Rattle.linear_facts.specs.Numbers.{small, small_of, number_by, number_at, fact_size, fact_number_at, small_lists, part_numbers, scaled_numbers, lane_numbers_by, lane_numbers, differences_fit, each_fits, fits_each, fits_parts}
 use Rattle.term_core.specs.Options.{all_some}
 use Rattle.linear_facts.proofs.Integers.{minus_one}
 use Rattle.linear_facts.proofs.NumberLaws.{all_there, pairs_of_all, scaled_all, all_fit}

@@ -6,9 +6,8 @@ use Rattle.term_core.specs.contracts.term.Term as term
 use Rattle.term_core.specs.declared.term.Term.{Term}
 use Rattle.base_kit.specs.Sameness.{same_decides}
 use Rattle.linear_facts.specs.Closing.{total}
-use Rattle.linear_facts.specs.Facts.{Fact, form_of}
+use Rattle.linear_facts.specs.Facts.{Fact, form_of, left_of, right_of}
 use Rattle.linear_facts.specs.Forms.{Shape, literal, sum, difference, opposite, multiple, whole, shape_of, within_shape, over_shapes, atom, form_by, form, same_term}
-use Rattle.linear_facts.specs.Working.{left_of, right_of}
 use Rattle.linear_facts.proofs.Integers.{minus_one, times-sum, times-times, sum-times}
 use Rattle.linear_facts.proofs.ShapeLaws.{EachPart, over_is, by_shape}
 use Rattle.linear_facts.proofs.SumLaws.{form_is, fact_form}

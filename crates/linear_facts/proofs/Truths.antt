@@ -20,8 +20,7 @@ use Rattle.term_core.specs.Values.{Value, a_number, a_truth, a_list, a_record, a
 use Rattle.term_core.specs.Evaluation.{Calls, value_by, applied}
 use Rattle.term_laws.proofs.ValueLaws.{value_op, value_int}
 use Rattle.term_laws.proofs.Meanings.{parts_of}
-use Rattle.linear_facts.specs.Facts.{Fact, at_most, below, equal_to, form_of, is_equation, denied, compared, comparison_in, comparison, bound_by, bound_in, bound, may_be_number, equation_by, equation_in, equation, fact_of}
-use Rattle.linear_facts.specs.Working.{left_of, right_of, extra_of}
+use Rattle.linear_facts.specs.Facts.{Fact, at_most, below, equal_to, form_of, is_equation, denied, compared, comparison_in, comparison, bound_by, bound_in, bound, may_be_number, equation_by, equation_in, equation, fact_of, left_of, right_of, extra_of}
 use Rattle.linear_facts.specs.Forms.{Shape, literal, sum, difference, opposite, multiple, whole, product, applied as shaped_by, shaped, literal_of, number_in, shape_of, within_shape, constant, form_by, form}
 use Rattle.linear_facts.proofs.Integers.{minus_one, times-sum, times-opposite}
 use Rattle.linear_facts.proofs.ShapeLaws.{EachPart, over_is, by_shape}

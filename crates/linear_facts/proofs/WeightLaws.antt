@@ -7,7 +7,7 @@ use Rattle.term_core.specs.declared.sequent.Sequent.{Sequent}
 use Rattle.linear_facts.specs.declared.lanes.Lane.{Lane}
 use Rattle.linear_facts.specs.Facts.{Fact, fact_at}
 use Rattle.linear_facts.specs.Closing.{weighed, weights_from}
-use Rattle.linear_facts.specs.Working.{with_fact, with_weights}
+use Rattle.linear_facts.specs.Lanes.{with_fact, with_weights}
 
 pub next_weight : (sequent : Sequent) (cs : List ℤ) (i : ℕ) → i < length cs
     → weights_from sequent i (drop i cs) ≡ weighed (get_or cs i (pos 0)) (fact_at sequent i) ++ weights_from sequent (i + 1) (drop (i + 1) cs)

@@ -6,7 +6,8 @@ use Rattle.term_core.specs.declared.term.Term.{Term}
 use Rattle.linear_facts.specs.declared.lanes.Part as parts
 use Rattle.linear_facts.specs.Forms.{Shape, sum, difference, shape_of, within_shape, Part}
 use Rattle.linear_facts.specs.Views.{part_behind}
-use Rattle.linear_facts.specs.Working.{same_part, atoms_by, atoms_of}
+use Rattle.linear_facts.specs.Asked.{atoms_by, atoms_of}
+use Rattle.linear_facts.specs.Lanes.{same_part}
 use Rattle.linear_facts.proofs.ShapeLaws.{over_at}
 use Rattle.linear_facts.proofs.SumLaws.{same_part_is}
 

@@ -1,5 +1,5 @@
 -- The facts that hypotheses and the negated goal give.
-use Rattle.std.specs.Prelude.{ℕ, zero, suc, pos, List, [], ◌∷◌, ◌++◌, slice_get, Bool, true, false, not, ◌&&◌, if◌then◌else◌, Option, Some, None}
+use Rattle.std.specs.Prelude.{ℕ, zero, suc, ℤ, pos, List, [], ◌∷◌, ◌++◌, slice_get, Bool, true, false, not, ◌&&◌, if◌then◌else◌, Option, Some, None}
 use Rattle.std.specs.Option.{option_map_or, option_and_then, option_or}
 use Rattle.term_core.specs.declared.sort.Sort.{Sort}
 use Rattle.term_core.specs.declared.sort.Sort.TheOpen.{Sort-F}
@@ -43,6 +43,23 @@ abbrev pub denied : Fact → Option Fact
 denied (at_most a b) = Some (below b a)
 denied (below a b) = Some (at_most b a)
 denied (equal_to a b) = None
+
+-- ---- its sides
+
+abbrev pub left_of : Fact → Term
+left_of (at_most a b) = a
+left_of (below a b) = a
+left_of (equal_to a b) = a
+
+abbrev pub right_of : Fact → Term
+right_of (at_most a b) = b
+right_of (below a b) = b
+right_of (equal_to a b) = b
+
+-- what the form of a fact has besides the difference
+abbrev pub extra_of : Fact → ℤ
+extra_of (below a b) = pos 1
+extra_of _ = pos 0
 
 -- ---- comparisons
 

@@ -1,9 +1,9 @@
 // The bound of 10^18 on the numbers of forms.
-ghost use Rattle.std.specs.Prelude.{◌≡◌, ◌≤◌, length, drop, ◌+◌, ◌*◌, ◌+ℤ◌, ◌-ℤ◌, ◌*ℤ◌, pos, map, unsigned_abs, is_some, Some, if◌then◌else◌};
-ghost use Rattle.std.specs.Option.{option_map};
+ghost use Rattle.std.specs.Prelude.{◌≡◌, ◌≤◌, length, drop, ◌+◌, ◌*◌, ◌+ℤ◌, ◌-ℤ◌, ◌*ℤ◌, pos, map, unsigned_abs, is_some, if◌then◌else◌};
 ghost use Rattle.linear_facts.specs.Views.{fact_behind, part_behind};
-ghost use Rattle.linear_facts.specs.Forms.{number, atom};
-ghost use Rattle.linear_facts.specs.Working.{is_lane_of, seen, small, part_numbers, scaled_list, scaled_numbers, plus_or_minus, small_first, small_pairs, items_of, lane_numbers, small_lists, first_difference, small_differences, differences_fit, each_fits, small_size, size_of_two, size_at, fact_size};
+ghost use Rattle.linear_facts.specs.Forms.{number};
+ghost use Rattle.linear_facts.specs.Lanes.{is_lane_of, seen};
+ghost use Rattle.linear_facts.specs.Numbers.{small, part_numbers, scaled_list, scaled_numbers, plus_or_minus, small_first, small_pairs, items_of, lane_numbers, small_lists, first_difference, small_differences, differences_fit, each_fits, small_size, size_of_two, size_at, fact_size};
 
 use crate::facts::Fact;
 use crate::lanes::{Lane, Part, WINDOW};

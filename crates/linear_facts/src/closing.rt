@@ -1,11 +1,13 @@
 // Whether coefficients close a sequent.
-ghost use Rattle.std.specs.Prelude.{◌≡◌, ◌↔◌, ◌≤◌, ◌^◌, ◌*ℤ◌, pos, map, length, IsTrue, is_some, unsigned_abs, nat_le, nat_lt, count_by, not, ◌&&◌, ◌||◌};
+ghost use Rattle.std.specs.Prelude.{◌≡◌, ◌↔◌, ◌≤◌, pos, map, length, IsTrue, unsigned_abs, nat_le, nat_lt, count_by, not, ◌&&◌, ◌||◌};
 ghost use Rattle.std.specs.List.{All, list_all, list_any};
 ghost use Rattle.std.specs.Ordering.{int_eq};
 ghost use Rattle.term_core.specs.Operations.{is_zero};
 ghost use Rattle.linear_facts.specs.Closing.{Closes, may_weigh, each_may_weigh, weighed, weights};
-ghost use Rattle.linear_facts.specs.Views.{fact_behind, found, part_behind};
-ghost use Rattle.linear_facts.specs.Working.{keeps_rules, is_closed, with_weights, fact_number_at, fits_each, IsFresh, same_part, is_right, is_atom_right, is_contradiction, all_right, atoms_of, atoms_in, all_atoms};
+ghost use Rattle.linear_facts.specs.Views.{found, part_behind};
+ghost use Rattle.linear_facts.specs.Asked.{keeps_rules, is_closed, is_right, is_atom_right, is_contradiction, all_right, atoms_of, all_atoms};
+ghost use Rattle.linear_facts.specs.Lanes.{with_weights, IsFresh, same_part};
+ghost use Rattle.linear_facts.specs.Numbers.{fits_each};
 
 use crate::bounds::{each_fits, is_light};
 use crate::facts::{Fact, fact_at};
@@ -252,9 +254,11 @@ fn is_closed(sequent: &Sequent, coeffs: &[i64]) -> bool
     keeps_rules(sequent, coeffs) && is_positive(sequent, coeffs) && are_atoms_right(sequent, coeffs)
 }
 
-/// Whether the sequent's facts, weighed by the coefficients, add up to a contradiction. The first
-/// coefficient weighs the negation of the goal, and each further one the hypothesis of its number.
-/// It takes no memory.
+/// Whether the sequent's facts, weighed by the coefficients, add up to a contradiction, by the rule
+/// `linear` (docs/proof-rules.md). The first coefficient weighs the negation of the goal, and each
+/// further one the hypothesis of its number; missing ones are 0. The answer is false where a rule on
+/// coefficients is broken, the sum is no contradiction, or a number is too large. It is exact for
+/// every sequent, also for one that isn't well sorted. It takes no memory.
 pub fn closes(sequent: &Sequent, coeffs: &[i64]) -> bool
     ensures { IsTrue result ↔ Closes sequent.now coeffs.now }
 {

@@ -1,10 +1,7 @@
 // The facts that hypotheses and the negated goal give.
-ghost use Rattle.std.specs.Prelude.{◌≡◌, map, if◌then◌else◌, Option, Some, None};
-ghost use Rattle.std.specs.Option.{option_map};
-ghost use Rattle.linear_facts.specs.Facts.{denied, comparison, bound, is_number_sort, gives_no_number, may_be_number, equation, fact_of, against, hypothesis_at, fact_at, is_equation};
+ghost use Rattle.std.specs.Prelude.{◌≡◌};
+ghost use Rattle.linear_facts.specs.Facts.{denied, comparison, bound, is_number_sort, gives_no_number, may_be_number, equation, fact_of, against, hypothesis_at, fact_at, is_equation, left_of, right_of, extra_of};
 ghost use Rattle.linear_facts.specs.Views.{fact_behind, found};
-ghost use Rattle.linear_facts.specs.Working.{left_of, right_of, extra_of};
-ghost use Rattle.term_core.specs.Validity.{sort_in};
 ghost use Rattle.term_core.specs.declared.sort.Sort.TheViews.{out-Sort};
 
 use base_kit::Text;

@@ -1,9 +1,9 @@
 // Lanes, in which the numbers of parts of forms are added up.
-ghost use Rattle.std.specs.Prelude.{◌≡◌, ℕ, ◌%◌, ◌+ℤ◌, ◌*ℤ◌, neg_ℤ, pos, map, unsigned_abs, if◌then◌else◌};
+ghost use Rattle.std.specs.Prelude.{◌≡◌, ◌%◌, ◌+ℤ◌, ◌*ℤ◌, neg_ℤ, pos, map, if◌then◌else◌};
 ghost use Rattle.std.specs.Int.{int_wrap};
 ghost use mir.Syntax.{w128};
 ghost use Rattle.linear_facts.specs.Views.{fact_behind, part_behind};
-ghost use Rattle.linear_facts.specs.Working.{mixed, mark_of, same_part, part_mark, is_lane_of, seen, seen_in, with_more, with_fact};
+ghost use Rattle.linear_facts.specs.Lanes.{mixed, mark_of, same_part, part_mark, is_lane_of, seen, seen_in, with_more, with_fact};
 ghost use Rattle.linear_facts.specs.Forms.{same_term};
 
 use crate::facts::Fact;
@@ -26,6 +26,7 @@ pub enum Part<'a> {
     Constant,
 }
 
+// What stands in the places of a window that nothing was put into.
 impl<'a> Default for Part<'a> {
     fn default() -> Part<'a> {
         Part::Constant
@@ -108,6 +109,7 @@ impl<'a> Part<'a> {
     }
 }
 
+// What stands in the places of a list of lanes that nothing was put into.
 impl<'a> Default for Lane<'a> {
     fn default() -> Lane<'a> {
         Lane::of(Part::Constant)

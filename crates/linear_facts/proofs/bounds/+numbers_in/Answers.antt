@@ -6,7 +6,7 @@ use Rattle.term_core.specs.declared.term.Term.{Term}
 use Rattle.linear_facts.specs.declared.lanes.Lane.{Lane}
 use Rattle.linear_facts.specs.Forms.{Shape, literal, sum, difference, opposite, multiple, whole, shape_of, within_shape, constant}
 use Rattle.linear_facts.specs.Views.{shape_behind}
-use Rattle.linear_facts.specs.Working.{small, plus_or_minus, small_lists, scaled_numbers, part_numbers, lane_numbers_by, lane_numbers}
+use Rattle.linear_facts.specs.Numbers.{small, plus_or_minus, small_lists, scaled_numbers, part_numbers, lane_numbers_by, lane_numbers}
 use Rattle.linear_facts.proofs.ShapeLaws.{over_at}
 use Rattle.linear_facts.proofs.bounds.+numbers_in.Goals as goal
 

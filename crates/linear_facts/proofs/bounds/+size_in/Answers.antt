@@ -6,7 +6,7 @@ use mir.Val.{SFits}
 use Rattle.term_core.specs.declared.term.Term.{Term}
 use Rattle.linear_facts.specs.Forms.{Shape, literal, sum, difference, opposite, multiple, whole, shape_of, within_shape}
 use Rattle.linear_facts.specs.Views.{shape_behind}
-use Rattle.linear_facts.specs.Working.{small_size, size_of_two, size_by, size_at}
+use Rattle.linear_facts.specs.Numbers.{small_size, size_of_two, size_by, size_at}
 use Rattle.linear_facts.proofs.ShapeLaws.{over_at}
 use Rattle.linear_facts.proofs.bounds.+size_in.Goals as goal
 

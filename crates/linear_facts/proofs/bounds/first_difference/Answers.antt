@@ -3,7 +3,7 @@ use Rattle.std.specs.Prelude.{is_some}
 use Rattle.std.proofs.lemmas.Int.{to_z-of_z}
 use mir.Syntax.{w64, w128}
 use mir.Val.{SFits}
-use Rattle.linear_facts.specs.Working.{small}
+use Rattle.linear_facts.specs.Numbers.{small}
 use Rattle.linear_facts.proofs.NumberLaws.{difference_at}
 use Rattle.linear_facts.proofs.bounds.first_difference.Goals as goal
 

@@ -1,6 +1,6 @@
 use Rattle.std.proofs.Common.{◌≡◌, map, take}
 use Rattle.linear_facts.specs.Views.{part_behind}
-use Rattle.linear_facts.specs.Working.{seen}
+use Rattle.linear_facts.specs.Lanes.{seen}
 use Rattle.linear_facts.proofs.bounds.part_list.Given as goal
 
 abbrev pub invariant-loop-lane : goal.invariant-loop-lane

@@ -1,6 +1,6 @@
 use Rattle.std.proofs.Common.{◌≡◌, ◌++◌, drop, length}
 use Rattle.std.specs.Option.{option_map}
-use Rattle.linear_facts.specs.Working.{scaled_list}
+use Rattle.linear_facts.specs.Numbers.{scaled_list}
 use Rattle.linear_facts.proofs.bounds.scaled_list.Given as goal
 
 abbrev pub invariant-loop-x : goal.invariant-loop-x

@@ -2,7 +2,7 @@ use Rattle.std.proofs.Common.{rules, get_or, pos, ◌∙◌}
 use Rattle.std.proofs.lemmas.Int.{to_z-of_z}
 use mir.Syntax.{w64}
 use mir.Val.{SFits}
-use Rattle.linear_facts.specs.Working.{small, plus_or_minus}
+use Rattle.linear_facts.specs.Numbers.{small, plus_or_minus}
 use Rattle.linear_facts.proofs.NumberLaws.{first_at}
 use Rattle.linear_facts.proofs.bounds.small_at.Goals as goal
 

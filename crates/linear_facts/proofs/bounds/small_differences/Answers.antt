@@ -2,7 +2,7 @@ use Rattle.std.proofs.Common.{ap, sym, ◌∙◌, rules, get_or, pos, drop}
 use Rattle.std.proofs.lemmas.Int.{to_z-of_z}
 use mir.Syntax.{w64}
 use mir.Val.{SFits}
-use Rattle.linear_facts.specs.Working.{first_difference}
+use Rattle.linear_facts.specs.Numbers.{first_difference}
 use Rattle.linear_facts.proofs.NumberLaws.{next_difference}
 use Rattle.linear_facts.proofs.bounds.small_differences.Goals as goal
 

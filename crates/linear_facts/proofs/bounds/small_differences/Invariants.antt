@@ -1,5 +1,5 @@
 use Rattle.std.proofs.Common.{◌≡◌, drop}
-use Rattle.linear_facts.specs.Working.{small_differences}
+use Rattle.linear_facts.specs.Numbers.{small_differences}
 use Rattle.linear_facts.proofs.bounds.small_differences.Given as goal
 
 abbrev pub invariant-loop-i : goal.invariant-loop-i

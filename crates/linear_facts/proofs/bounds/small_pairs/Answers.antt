@@ -3,7 +3,7 @@ use Rattle.std.specs.Option.{option_map}
 use Rattle.std.proofs.lemmas.Int.{to_z-of_z}
 use mir.Syntax.{w64}
 use mir.Val.{SFits}
-use Rattle.linear_facts.specs.Working.{plus_or_minus, small_first, small_pairs}
+use Rattle.linear_facts.specs.Numbers.{plus_or_minus, small_first, small_pairs}
 use Rattle.linear_facts.proofs.NumberLaws.{next_pair}
 use Rattle.linear_facts.proofs.bounds.small_pairs.Goals as goal
 

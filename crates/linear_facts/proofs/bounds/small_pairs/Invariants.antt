@@ -1,6 +1,6 @@
 use Rattle.std.proofs.Common.{◌≡◌, ◌++◌, drop, length}
 use Rattle.std.specs.Option.{option_map}
-use Rattle.linear_facts.specs.Working.{plus_or_minus, small_pairs}
+use Rattle.linear_facts.specs.Numbers.{plus_or_minus, small_pairs}
 use Rattle.linear_facts.proofs.bounds.small_pairs.Given as goal
 
 -- the numbers so far, and those of what is left

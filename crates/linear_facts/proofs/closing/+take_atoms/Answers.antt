@@ -3,7 +3,7 @@ use Rattle.std.specs.List.{list_all}
 use Rattle.linear_facts.specs.Closing.{weights}
 use Rattle.linear_facts.specs.Forms.{literal, opposite, multiple, whole}
 use Rattle.linear_facts.specs.Views.{shape_behind}
-use Rattle.linear_facts.specs.Working.{all_right, is_atom_right, atoms_of}
+use Rattle.linear_facts.specs.Asked.{all_right, is_atom_right, atoms_of}
 use Rattle.linear_facts.proofs.WindowLaws.{both_taken, first_failed, atoms_at, all_in_sum, all_in_difference, and_true}
 use Rattle.linear_facts.proofs.closing.+take_atoms.Goals as goal
 

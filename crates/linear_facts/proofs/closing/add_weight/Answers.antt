@@ -6,7 +6,7 @@ use Rattle.linear_facts.specs.declared.lanes.Lane.{Lane}
 use Rattle.linear_facts.specs.Facts.{Fact}
 use Rattle.linear_facts.specs.Closing.{weighed}
 use Rattle.linear_facts.specs.Views.{fact_behind, found}
-use Rattle.linear_facts.specs.Working.{with_weights}
+use Rattle.linear_facts.specs.Lanes.{with_weights}
 use Rattle.linear_facts.proofs.WeightLaws.{none_added}
 use Rattle.linear_facts.proofs.closing.add_weight.Goals as goal
 

@@ -3,7 +3,7 @@ use Rattle.std.proofs.lemmas.Int.{to_z-of_z}
 use mir.Syntax.{w64}
 use mir.Val.{SFits}
 use Rattle.linear_facts.specs.Closing.{weighed}
-use Rattle.linear_facts.specs.Working.{with_weights}
+use Rattle.linear_facts.specs.Lanes.{with_weights}
 use Rattle.linear_facts.proofs.WeightLaws.{no_weights, none_added, added_next}
 use Rattle.linear_facts.proofs.closing.add_weights.Goals as goal
 

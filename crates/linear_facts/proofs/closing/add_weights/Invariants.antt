@@ -1,6 +1,6 @@
 use Rattle.std.proofs.Common.{◌≡◌, map, drop}
 use Rattle.linear_facts.specs.Closing.{weights_from, weights}
-use Rattle.linear_facts.specs.Working.{with_weights}
+use Rattle.linear_facts.specs.Lanes.{with_weights}
 use Rattle.linear_facts.proofs.closing.add_weights.Given as goal
 
 abbrev pub invariant-loop-i : goal.invariant-loop-i

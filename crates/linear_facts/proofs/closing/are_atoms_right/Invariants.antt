@@ -1,7 +1,7 @@
 use Rattle.std.proofs.Common.{◌≡◌, drop, ◌&&◌}
 use Rattle.std.specs.List.{list_all}
 use Rattle.linear_facts.specs.Closing.{weights_from, weights}
-use Rattle.linear_facts.specs.Working.{all_right, all_atoms, is_atom_right}
+use Rattle.linear_facts.specs.Asked.{all_right, all_atoms, is_atom_right}
 use Rattle.linear_facts.proofs.closing.are_atoms_right.Given as goal
 
 -- the window's atoms and those that are left, against all

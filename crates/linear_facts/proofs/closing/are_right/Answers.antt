@@ -2,7 +2,7 @@ use Rattle.std.proofs.Common.{pos, map, ◌&&◌, refl, sym, ap, ◌∙◌}
 use Rattle.std.specs.List.{list_all}
 use Rattle.std.specs.Ordering.{int_eq}
 use Rattle.linear_facts.specs.Closing.{weights}
-use Rattle.linear_facts.specs.Working.{with_weights}
+use Rattle.linear_facts.specs.Lanes.{with_weights}
 use Rattle.linear_facts.proofs.SumLaws.{written_back, right_parts}
 use Rattle.linear_facts.proofs.closing.are_right.Goals as goal
 

@@ -7,7 +7,7 @@ use mir.Val.{to_z, of_z}
 use Rattle.linear_facts.specs.Closing.{weights, total}
 use Rattle.linear_facts.specs.Forms.{constant}
 use Rattle.linear_facts.specs.Views.{part_behind}
-use Rattle.linear_facts.specs.Working.{part_mark, IsFresh}
+use Rattle.linear_facts.specs.Lanes.{part_mark, IsFresh}
 use Rattle.linear_facts.proofs.SumLaws.{constant_fits, constant_sum}
 use Rattle.linear_facts.proofs.closing.is_positive.Goals as goal
 

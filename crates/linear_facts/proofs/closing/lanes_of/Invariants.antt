@@ -1,6 +1,6 @@
 use Rattle.std.proofs.Common.{◌≡◌, map, take}
 use Rattle.std.specs.List.{All}
-use Rattle.linear_facts.specs.Working.{IsFresh}
+use Rattle.linear_facts.specs.Lanes.{IsFresh}
 use Rattle.linear_facts.proofs.closing.lanes_of.Given as goal
 
 abbrev pub invariant-loop-part : goal.invariant-loop-part

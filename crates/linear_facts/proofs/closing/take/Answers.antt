@@ -2,7 +2,8 @@ use Rattle.std.proofs.Common.{◌∙◌, sym, ap}
 use Rattle.std.specs.List.{list_any}
 use Rattle.linear_facts.specs.Closing.{weights}
 use Rattle.linear_facts.specs.Views.{part_behind}
-use Rattle.linear_facts.specs.Working.{same_part, is_right}
+use Rattle.linear_facts.specs.Asked.{is_right}
+use Rattle.linear_facts.specs.Lanes.{same_part}
 use Rattle.linear_facts.proofs.WindowLaws.{among}
 use Rattle.linear_facts.proofs.closing.take.Goals as goal
 

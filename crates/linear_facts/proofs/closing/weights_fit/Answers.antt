@@ -4,7 +4,7 @@ use Rattle.std.proofs.lemmas.Int.{to_z-of_z}
 use mir.Syntax.{w64}
 use mir.Val.{SFits}
 use Rattle.linear_facts.specs.Closing.{weighed}
-use Rattle.linear_facts.specs.Working.{fits_each}
+use Rattle.linear_facts.specs.Numbers.{fits_each}
 use Rattle.linear_facts.proofs.WeightLaws.{all_next}
 use Rattle.linear_facts.proofs.closing.weights_fit.Goals as goal
 

@@ -1,7 +1,7 @@
 use Rattle.std.proofs.Common.{◌≡◌, drop}
 use Rattle.std.specs.List.{list_all}
 use Rattle.linear_facts.specs.Closing.{weights_from, weights}
-use Rattle.linear_facts.specs.Working.{fits_each}
+use Rattle.linear_facts.specs.Numbers.{fits_each}
 use Rattle.linear_facts.proofs.closing.weights_fit.Given as goal
 
 abbrev pub invariant-loop-i : goal.invariant-loop-i

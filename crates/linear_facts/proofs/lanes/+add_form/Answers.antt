@@ -5,7 +5,7 @@ use mir.Syntax.{w128}
 use mir.Val.{SFits}
 use Rattle.linear_facts.specs.Forms.{atom, constant}
 use Rattle.linear_facts.specs.Views.{shape_behind}
-use Rattle.linear_facts.specs.Working.{seen, with_more}
+use Rattle.linear_facts.specs.Lanes.{seen, with_more}
 use Rattle.linear_facts.proofs.LaneLaws.{with_form, added_literal, added_atom, added_sum, added_difference, added_opposite, added_multiple}
 use Rattle.linear_facts.proofs.lanes.+add_form.Goals as goal
 

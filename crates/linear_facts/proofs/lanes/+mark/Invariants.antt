@@ -1,6 +1,6 @@
 use Rattle.std.proofs.Common.{◌≡◌, map, take}
 use Rattle.std.specs.List.{fold}
-use Rattle.linear_facts.specs.Working.{mixed, mark_of}
+use Rattle.linear_facts.specs.Lanes.{mixed, mark_of}
 use Rattle.linear_facts.proofs.lanes.+mark.Given as goal
 
 abbrev pub invariant-loop-byte : goal.invariant-loop-byte

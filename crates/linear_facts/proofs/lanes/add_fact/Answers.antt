@@ -5,7 +5,8 @@ use mir.Syntax.{w64, w128}
 use mir.Val.{SFits, to_z, of_z}
 use Rattle.linear_facts.specs.Forms.{constant}
 use Rattle.linear_facts.specs.Views.{fact_behind}
-use Rattle.linear_facts.specs.Working.{left_of, right_of, extra_of, seen, with_more}
+use Rattle.linear_facts.specs.Facts.{left_of, right_of, extra_of}
+use Rattle.linear_facts.specs.Lanes.{seen, with_more}
 use Rattle.linear_facts.proofs.LaneLaws.{with_form, added_fact}
 use Rattle.linear_facts.proofs.lanes.add_fact.Goals as goal
 

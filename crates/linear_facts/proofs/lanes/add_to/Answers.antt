@@ -4,7 +4,7 @@ use mir.Syntax.{w128}
 use mir.Val.{to_z, of_z}
 use Rattle.linear_facts.specs.declared.lanes.Lane.{Lane}
 use Rattle.linear_facts.specs.Views.{part_behind}
-use Rattle.linear_facts.specs.Working.{is_lane_of, seen, with_more}
+use Rattle.linear_facts.specs.Lanes.{is_lane_of, seen, with_more}
 use Rattle.linear_facts.proofs.lanes.add_to.Goals as goal
 
 next : (f : Lane → Lane) (xs ys : List Lane) (i : ℕ) (x r : Lane) → i < length xs → ys ≡ map f (take i xs) ++ drop i xs → x ≡ get_or ys i x → r ≡ f (get_or ys i x)

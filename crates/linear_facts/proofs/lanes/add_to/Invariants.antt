@@ -1,6 +1,6 @@
 use Rattle.std.proofs.Common.{◌≡◌, ◌++◌, map, take, drop}
 use Rattle.linear_facts.specs.Views.{part_behind}
-use Rattle.linear_facts.specs.Working.{seen, with_more}
+use Rattle.linear_facts.specs.Lanes.{seen, with_more}
 use Rattle.linear_facts.proofs.lanes.add_to.Given as goal
 
 abbrev pub invariant-loop-lane : goal.invariant-loop-lane

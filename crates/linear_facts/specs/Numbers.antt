@@ -1,103 +1,16 @@
--- What the code works with: marks that tell atoms apart quickly, lanes in which numbers of parts are added up, and the
--- exact numbers of a form where all are small.
-use Rattle.std.specs.Prelude.{◌≡◌, ℕ, ◌+◌, ◌*◌, ◌%◌, ℤ, pos, negsuc, ◌+ℤ◌, ◌-ℤ◌, ◌*ℤ◌, neg_ℤ, unsigned_abs, nat_le, nat_lt, int_lt, count_by, is_some, List, [], ◌∷◌, ◌++◌, map, drop, fold, Bool, true, false, not, ◌&&◌, ◌||◌, ◌==◌, if◌then◌else◌, Option, Some, None}
+-- The numbers of forms where all are small, as the code finds them.
+use Rattle.std.specs.Prelude.{ℕ, ◌+◌, ◌*◌, ℤ, pos, negsuc, ◌+ℤ◌, ◌-ℤ◌, ◌*ℤ◌, unsigned_abs, nat_le, is_some, List, [], ◌∷◌, map, drop, Bool, true, false, ◌&&◌, ◌||◌, if◌then◌else◌, Option, Some, None}
 use Rattle.std.specs.List.{list_all}
-use Rattle.std.specs.Int.{int_wrap}
 use Rattle.std.specs.Option.{option_map, option_and_then}
-use Rattle.std.specs.Ordering.{int_eq}
-use mir.Syntax.{w128}
 use Rattle.arrayvec.specs.ArrayVec.{ArrayVec}
 use Rattle.term_core.specs.declared.term.Term.{Term}
-use Rattle.term_core.specs.declared.term.Term.TheOpen.{Term-F}
-use Rattle.term_core.specs.declared.term.Term.TheFolds.{fold-Term}
 use Rattle.linear_facts.specs.declared.lanes.Lane.{Lane}
-use Rattle.linear_facts.specs.declared.lanes.Part as parts
-use Rattle.linear_facts.specs.declared.lanes.TheConstants.{MARKS, SPREAD}
-use Rattle.term_core.specs.declared.sequent.Sequent.{Sequent}
-use Rattle.term_core.specs.Operations.{is_zero}
-use Rattle.linear_facts.specs.declared.limits.TheConstants.{MOST_COEFFICIENT, TOO_MANY, MOST_NUMBER}
-use Rattle.linear_facts.specs.Closing.{each_may_weigh, weights, total}
-use Rattle.linear_facts.specs.Facts.{Fact, at_most, below, equal_to}
+use Rattle.linear_facts.specs.declared.limits.TheConstants.{MOST_NUMBER}
+use Rattle.linear_facts.specs.Facts.{Fact, left_of, right_of, extra_of}
 use Rattle.term_core.specs.Options.{all_some}
-use Rattle.linear_facts.specs.Forms.{Shape, literal, sum, difference, opposite, multiple, whole, over_shapes, Part, atom, constant, number, same_term}
+use Rattle.linear_facts.specs.Forms.{Shape, literal, sum, difference, opposite, multiple, whole, over_shapes, Part, atom, constant, number}
 use Rattle.linear_facts.specs.Views.{part_behind}
-
--- ---- marks
-
-abbrev pub mixed : ℕ → ℕ → ℕ
-mixed mark next = (mark * SPREAD + next) % MARKS
-
--- each kind of term begins with a number of its own
-abbrev pub mark_step : Term-F ℕ → ℕ
-mark_step (Term-F.Int n) = mixed 1 (unsigned_abs n % MARKS)
-mark_step (Term-F.Truth b) = if b then 3 else 2
-mark_step (Term-F.Var x) = fold mixed 4 x
-mark_step (Term-F.Op o marks) = fold mixed 5 marks
-mark_step (Term-F.All x low high body) = mixed (mixed low high) body
-mark_step (Term-F.Some x low high body) = mixed (mixed high low) body
-
--- equal terms have equal marks
-abbrev pub mark_of : Term → ℕ
-mark_of = fold-Term ℕ mark_step
-
--- ---- facts
-
-abbrev pub left_of : Fact → Term
-left_of (at_most a b) = a
-left_of (below a b) = a
-left_of (equal_to a b) = a
-
-abbrev pub right_of : Fact → Term
-right_of (at_most a b) = b
-right_of (below a b) = b
-right_of (equal_to a b) = b
-
--- what the form of a fact has besides the difference
-abbrev pub extra_of : Fact → ℤ
-extra_of (below a b) = pos 1
-extra_of _ = pos 0
-
--- ---- lanes
-
-abbrev pub same_part : Part → Part → Bool
-same_part (atom t) (atom u) = same_term t u
-same_part constant constant = true
-same_part _ _ = false
-
-abbrev pub part_mark : Part → ℕ
-part_mark (atom t) = mark_of t
-part_mark constant = 0
-
--- whether a lane is that of a part with this mark
-abbrev pub is_lane_of : Lane → Part → ℕ → Bool
-is_lane_of lane part mark = lane.mark == mark && same_part part (part_behind lane.part)
-
--- a number that is added where the lane is that of the part
-abbrev pub seen : Lane → Part → ℤ → ℤ
-seen lane part n = if is_lane_of lane part (part_mark part) then n else pos 0
-
-abbrev pub seen_by : Lane → Term → Shape ℤ → ℤ
-seen_by lane t (literal n) = seen lane constant n
-seen_by lane t (sum a b) = a +ℤ b
-seen_by lane t (difference a b) = a -ℤ b
-seen_by lane t (opposite a) = neg_ℤ a
-seen_by lane t (multiple n a) = n *ℤ a
-seen_by lane t whole = seen lane (atom t) (pos 1)
-
-abbrev pub seen_in : Lane → Term → ℤ
-seen_in lane = over_shapes (seen_by lane)
-
--- a lane with a number more, in 128 bits
-abbrev pub with_more : ℤ → Lane → Lane
-with_more n lane = record lane { sum = int_wrap w128 (lane.sum +ℤ n) }
-
--- a lane with the numbers of a fact more, times a weight
-abbrev pub with_fact : ℤ → Fact → Lane → Lane
-with_fact weight fact lane = with_more (weight *ℤ (seen_in lane (left_of fact) -ℤ seen_in lane (right_of fact) +ℤ seen lane constant (extra_of fact))) lane
-
-abbrev pub with_weights : List (ℤ × Fact) → Lane → Lane
-with_weights [] lane = lane
-with_weights (w ∷ ws) lane = with_weights ws (with_fact w.0 w.1 lane)
+use Rattle.linear_facts.specs.Lanes.{same_part, seen}
 
 -- ---- exact numbers
 
@@ -212,56 +125,3 @@ fits_each lanes fact = is_some (fact_size fact) || each_fits lanes fact
 
 abbrev pub fits_parts : List Lane → Fact → Bool
 fits_parts lanes fact = is_some (fact_size fact) || list_all (λ lane. is_some (fact_number_at (part_behind lane.part) fact)) lanes
-
--- ---- parts that are as they should be
-
-abbrev pub fit_at : List (ℤ × Fact) → Part → Bool
-fit_at ws p = list_all (λ w. fits_at p w.1) ws
-
--- the part is within its bounds, and adds up to 0
-abbrev pub is_right : List (ℤ × Fact) → Part → Bool
-is_right ws p = fit_at ws p && int_eq (int_wrap w128 (total ws p)) (pos 0)
-
-abbrev pub is_atom_right : List (ℤ × Fact) → Term → Bool
-is_atom_right ws t = is_right ws (atom t)
-
-abbrev pub all_right : Sequent → List ℤ → List parts.Part → Bool
-all_right sequent cs ps = list_all (λ p. is_right (weights sequent cs) (part_behind p)) ps
-
-abbrev pub is_contradiction : List (ℤ × Fact) → Bool
-is_contradiction ws = fit_at ws constant && int_lt (pos 0) (int_wrap w128 (total ws constant))
-
--- ---- the atoms of forms, in order
-
-abbrev pub atoms_by : Term → Shape (List Term) → List Term
-atoms_by t (literal n) = []
-atoms_by t (sum ts us) = ts ++ us
-atoms_by t (difference ts us) = ts ++ us
-atoms_by t (opposite ts) = ts
-atoms_by t (multiple n ts) = ts
-atoms_by t whole = t ∷ []
-
-abbrev pub atoms_of : Term → List Term
-atoms_of = over_shapes atoms_by
-
-abbrev pub atoms_in : Fact → List Term
-atoms_in fact = atoms_of (left_of fact) ++ atoms_of (right_of fact)
-
-abbrev pub all_atoms : List (ℤ × Fact) → List Term
-all_atoms [] = []
-all_atoms (w ∷ ws) = atoms_in w.1 ++ all_atoms ws
-
--- ---- the rules on coefficients
-
-abbrev pub keeps_rules : Sequent → List ℤ → Bool
-keeps_rules sequent cs = each_may_weigh sequent 0 cs && list_all (λ c. nat_le (unsigned_abs c) MOST_COEFFICIENT) cs
-    && nat_lt (count_by (λ c. not (is_zero c)) cs) TOO_MANY
-
--- what the code asks
-abbrev pub is_closed : Sequent → List ℤ → Bool
-is_closed sequent cs = keeps_rules sequent cs && is_contradiction (weights sequent cs) && list_all (is_atom_right (weights sequent cs)) (all_atoms (weights sequent cs))
-
--- a lane that nothing was added to
-pub record IsFresh (lane : Lane) : Type 0 where
-  pub mark : lane.mark ≡ part_mark (part_behind lane.part)
-  pub sum : lane.sum ≡ pos 0
