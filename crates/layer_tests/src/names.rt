@@ -1,4 +1,4 @@
-// What names see, and which declarations stand where their name is taken, in two small documents.
+// What names see, and which declarations stand where their name is taken, in small documents.
 use ada_names::Table;
 use ada_tree::{DeclId, Kids, Kind, Lookup, Node};
 use base_kit::{Code, Memory, Names, Path, Place, Stop, Text};
@@ -291,6 +291,85 @@ const SEEN: &[Seen] = &[
     ("", "INTEGER", &[0, 4, 4, 0, 1], Err(Code::F05)),
     ("P", "COLOR", &[0, 4, 1, 0, 1], Ok(10)),
     ("P", "N", &[0, 4, 1, 0, 1], Err(Code::F05)),
+];
+
+// procedure DECLARED (A : in INTEGER) is begin null; end;
+// with NAMED; procedure Q is begin NAMED(1); NAMED(2); end;
+macro_rules! calls {
+    ($declared:literal, $named:literal) => {
+        &[
+            (0, Kind::Doc, ""),
+            (1, Kind::File, ""),
+            (2, Kind::Unit, ""),
+            (3, Kind::List, ""),
+            (3, Kind::SubBody, ""),
+            (4, Kind::Proc, $declared),
+            (5, Kind::Formals, ""),
+            (6, Kind::List, ""),
+            (7, Kind::Formal, "in"),
+            (8, Kind::List, ""),
+            (9, Kind::Id, "A"),
+            (8, Kind::Name, "INTEGER"),
+            (4, Kind::None, ""),
+            (4, Kind::List, ""),
+            (4, Kind::Seq, ""),
+            (5, Kind::List, ""),
+            (6, Kind::Null, ""),
+            (5, Kind::None, ""),
+            (2, Kind::Unit, ""),
+            (3, Kind::List, ""),
+            (4, Kind::With, ""),
+            (5, Kind::List, ""),
+            (6, Kind::Name, $named),
+            (3, Kind::SubBody, ""),
+            (4, Kind::Proc, "Q"),
+            (5, Kind::None, ""),
+            (4, Kind::None, ""),
+            (4, Kind::List, ""),
+            (4, Kind::Seq, ""),
+            (5, Kind::List, ""),
+            (6, Kind::Call, ""),
+            (7, Kind::Apply, ""),
+            (8, Kind::Name, $named),
+            (8, Kind::List, ""),
+            (9, Kind::Int, "1"),
+            (6, Kind::Call, ""),
+            (7, Kind::Apply, ""),
+            (8, Kind::Name, $named),
+            (8, Kind::List, ""),
+            (9, Kind::Int, "2"),
+            (5, Kind::None, ""),
+        ]
+    };
+}
+
+// The procedure and its calls; the procedure renamed, and nothing else; its names renamed with it.
+const CALLED: &[Row] = calls!("P", "P");
+
+const RENAMED_ALONE: &[Row] = calls!("R", "P");
+
+const RENAMED: &[Row] = calls!("R", "R");
+
+// The name in the `with` clause, and in the calls.
+const BEFORE: &[Seen] = &[
+    ("", "P", &[0, 1, 0, 0, 0, 0], Ok(9)),
+    ("", "P", &[0, 1, 1, 3, 0, 0, 0, 0], Ok(9)),
+    ("", "P", &[0, 1, 1, 3, 0, 1, 0, 0], Ok(9)),
+    ("", "R", &[0, 1, 1, 3, 0, 0, 0, 0], Err(Code::F05)),
+];
+
+const ALONE: &[Seen] = &[
+    ("", "P", &[0, 1, 0, 0, 0, 0], Err(Code::F05)),
+    ("", "P", &[0, 1, 1, 3, 0, 0, 0, 0], Err(Code::F05)),
+    // No `with` clause names it.
+    ("", "R", &[0, 1, 1, 3, 0, 0, 0, 0], Err(Code::F05)),
+];
+
+const TOGETHER: &[Seen] = &[
+    ("", "R", &[0, 1, 0, 0, 0, 0], Ok(9)),
+    ("", "R", &[0, 1, 1, 3, 0, 0, 0, 0], Ok(9)),
+    ("", "R", &[0, 1, 1, 3, 0, 1, 0, 0], Ok(9)),
+    ("", "P", &[0, 1, 1, 3, 0, 1, 0, 0], Err(Code::F05)),
 ];
 
 // package P is
@@ -688,16 +767,17 @@ fn sees(alloc: Global, scope: &Scope, row: &Seen) -> Result<bool, Memory> {
     )
 }
 
-fn first_unseen(alloc: Global) -> Result<usize, Memory> {
-    let Some(scope) = scope(alloc, UNITS)? else {
+// The number of the first row that is wrong in the document, or of all rows.
+fn first_unseen(alloc: Global, document: &[Row], seen: &[Seen]) -> Result<usize, Memory> {
+    let Some(scope) = scope(alloc, document)? else {
         return Ok(0);
     };
-    for (number, row) in SEEN.iter().enumerate() {
+    for (number, row) in seen.iter().enumerate() {
         if !sees(alloc, &scope, row)? {
             return Ok(number);
         }
     }
-    Ok(SEEN.len())
+    Ok(seen.len())
 }
 
 fn is_declared(alloc: Global, scope: &Scope, row: &Declared) -> Result<bool, Memory> {
@@ -762,7 +842,19 @@ fn first_misnumbered(alloc: Global) -> Result<usize, Memory> {
 
 #[test]
 fn names_see_what_is_visible(rt: HostRuntime) -> Result<(), Fail> {
-    assert_eq!(rt; first_unseen(rt.alloc())?, SEEN.len());
+    let seen = first_unseen(rt.alloc(), UNITS, SEEN)?;
+    assert_eq!(rt; seen, SEEN.len());
+    Ok(())
+}
+
+#[test]
+fn names_of_a_renamed_unit_see_nothing(rt: HostRuntime) -> Result<(), Fail> {
+    let before = first_unseen(rt.alloc(), CALLED, BEFORE)?;
+    assert_eq!(rt; before, BEFORE.len());
+    let alone = first_unseen(rt.alloc(), RENAMED_ALONE, ALONE)?;
+    assert_eq!(rt; alone, ALONE.len());
+    let together = first_unseen(rt.alloc(), RENAMED, TOGETHER)?;
+    assert_eq!(rt; together, TOGETHER.len());
     Ok(())
 }
 
