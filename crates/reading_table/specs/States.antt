@@ -10,7 +10,8 @@ use Rattle.ada_tree.specs.contracts.word.Word as word_row
 use Rattle.ada_tree.specs.contracts.word.Mark as mark_row
 use Rattle.ada_tree.specs.Nodes.{kind_of, text_of, notes_of, kids_of, node_of}
 use Rattle.ada_tree.specs.Tokens.{Lexeme, a_name, a_number, a_word, a_mark}
-use Rattle.ada_tree.specs.Words.{word_text, mark_text}
+use Rattle.ada_tree.specs.Words.{word_text}
+use Rattle.ada_tree.specs.Rendering.{lexeme_text}
 use Rattle.reading_table.specs.declared.held.Held.{Held}
 use Rattle.reading_table.specs.declared.held.Held.TheVariants as held
 use Rattle.reading_table.specs.declared.symbol.Symbol.{Symbol}
@@ -26,12 +27,6 @@ pub record Token : Type 0 where
   pub comments : List (List ℕ)
   pub note : Bool
   pub lexeme : Lexeme
-
-abbrev pub text_of_lexeme : Lexeme → List ℕ
-text_of_lexeme (a_name text) = text
-text_of_lexeme (a_number text) = text
-text_of_lexeme (a_word w) = word_text w
-text_of_lexeme (a_mark m) = mark_text m
 
 -- the token is of the set
 abbrev pub is_of : Tokens → Lexeme → Bool
@@ -118,9 +113,9 @@ set_of _ = tokens.Name
 
 -- a closing name is the one that is closed
 abbrev pub closes : Symbol → State → Lexeme → Bool
-closes (symbol.Closing depth) state lexeme = bytes_eq (text_of_lexeme lexeme) (text_below depth state.values)
+closes (symbol.Closing depth) state lexeme = bytes_eq (lexeme_text lexeme) (text_below depth state.values)
 closes _ state lexeme = true
 
 abbrev pub taken : Symbol → State → Lexeme → State
-taken (symbol.Keep set) state lexeme = with_values state (held.Text (text_of_lexeme lexeme) ∷ state.values)
+taken (symbol.Keep set) state lexeme = with_values state (held.Text (lexeme_text lexeme) ∷ state.values)
 taken _ state lexeme = state
