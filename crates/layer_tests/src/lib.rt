@@ -12,6 +12,8 @@ mod carrying;
 #[cfg(test)]
 mod certificates;
 #[cfg(test)]
+mod documents;
+#[cfg(test)]
 mod edges;
 #[cfg(test)]
 mod names;
