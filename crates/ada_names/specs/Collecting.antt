@@ -1,4 +1,4 @@
--- The entries of a document, in the order of its nodes: a fold over the tree by two tables, what a node declares and what is round its kids.
+-- The entries of a document, in the order of its nodes: a fold over the tree by two tables, what a node says and what is round its kids.
 use Rattle.std.specs.Prelude.{ℕ, ◌+◌, List, [], ◌∷◌, ◌++◌, nat_eq, Option, Some, None, if◌then◌else◌}
 use Rattle.ada_tree.specs.declared.kind.Kind.{Kind}
 use Rattle.ada_tree.specs.declared.kind.Kind.TheVariants as kind
@@ -21,7 +21,17 @@ subprogram_at k path a = record a { kind = k; region = path; within = path; oute
 abbrev pub region_in_trait : List ℕ → ℕ → List ℕ
 region_in_trait path number = if nat_eq number 3 then path ▸ 4 else if nat_eq number 5 then path ▸ 6 else path
 
--- What is round the kid of this number. `home` is the region of a package and its body; context clauses belong to their unit.
+-- The mark of a raise clause is its first part.
+abbrev pub in_raise : List ℕ → ℕ → Around → Around
+in_raise path number a = if nat_eq number 0 then declaration_at kind.RaiseC path a else a
+
+-- what stands before the dot of a mark of a `where` block
+abbrev pub in_prefix : Kind → List ℕ → Around → Around
+in_prefix kind.Global path a = declaration_at kind.Select path a
+in_prefix kind.RaiseC path a = declaration_at kind.Select path a
+in_prefix _ path a = a
+
+-- What is round the kid of this number. `home` is the region of a package and its body; context clauses belong to their unit, the clauses of a `where` block to the block.
 abbrev pub down : Kind → List ℕ → List ℕ → ℕ → Around → Around
 down kind.Unit home path number a = if nat_eq number 0 then record a { region = path } else a
 down kind.With home path number a = declaration_at kind.With path a
@@ -43,53 +53,79 @@ down kind.Vars home path number a = declaration_at kind.Vars path a
 down kind.TypeDecl home path number a = declaration_at kind.TypeDecl path a
 down kind.Enum home path number a = record a { kind = kind.Enum }
 down kind.Trait home path number a = record a { region = region_in_trait path number }
+down kind.Where home path number a = record a { region = path }
+down kind.Global home path number a = declaration_at kind.Global path a
+down kind.RaiseC home path number a = in_raise path number a
+down kind.Select home path number a = in_prefix a.kind path a
 down _ home path number a = a
 
--- a name in a `with` or `use` clause
-abbrev pub clause_name : Kind → List ℕ → List ℕ → Around → List Entry → Option Entry
-clause_name kind.With text path a es = Some (entry es kind.With text path a.region a.until a.within)
-clause_name kind.Use text path a es = Some (entry es kind.Use text path a.region a.until a.within)
-clause_name _ text path a es = None
+-- What a node itself declares, binds or mentions: nothing; or a name, by the kind of its declaration or clause, its region, the node from whose end on it is visible, and the subprogram round it.
+pub data Saying : Type 0 where
+  silent : Saying
+  says : (k : Kind) (region from within : List ℕ) → Saying
 
 -- a name that is visible from the end of this node on, in the innermost region
-abbrev pub here : Kind → List ℕ → List ℕ → Around → List Entry → Option Entry
-here k text path a es = Some (entry es k text path a.region path a.within)
+abbrev pub here : Kind → List ℕ → Around → Saying
+here k path a = says k a.region path a.within
+
+-- A node of a mark, by what is round it: the mark of a `global` or a raise clause, or what stands before its dot. The kind RaiseC is that of the clause's own node.
+abbrev pub mark_in : Kind → Kind → List ℕ → Around → Saying
+mark_in kind.Global k path a = here kind.Global path a
+mark_in kind.RaiseC k path a = here kind.Raise path a
+mark_in kind.Select k path a = here k path a
+mark_in _ k path a = silent
+
+-- a name in a clause
+abbrev pub clause_name : Kind → List ℕ → Around → Saying
+clause_name kind.With path a = says kind.With a.region a.until a.within
+clause_name kind.Use path a = says kind.Use a.region a.until a.within
+clause_name k path a = mark_in k kind.Name path a
 
 -- what has no region round it: an operator, a trait, the beginning of a term
-abbrev pub alone : Kind → List ℕ → List ℕ → List Entry → Option Entry
-alone k text path es = Some (entry es k text path [] path [])
+abbrev pub alone : Kind → List ℕ → Saying
+alone k path = says k [] path []
 
 -- a name that is bound inside this node, from the end of its kid of this number on
-abbrev pub bound : Kind → List ℕ → List ℕ → ℕ → List Entry → Option Entry
-bound k text path number es = Some (entry es k text path path (path ▸ number) [])
+abbrev pub bound : Kind → List ℕ → ℕ → Saying
+bound k path number = says k path (path ▸ number) []
 
--- What a node itself declares, binds or mentions. The names of an object, of a formal or of an enumeration are visible from the end of their declaration, a subprogram's from the end of its specification, a loop parameter's from the end of its range.
+-- The names of an object, of a formal or of an enumeration are visible from the end of their declaration, a subprogram's from the end of its specification, a loop parameter's from the end of its range.
+abbrev pub saying : Kind → List ℕ → Around → Saying
+saying kind.Id path a = says a.kind a.region a.until a.within
+saying kind.Name path a = clause_name a.kind path a
+saying kind.Select path a = mark_in a.kind kind.Select path a
+saying kind.Proc path a = says a.kind a.outer_region path a.outer_within
+saying kind.Func path a = says a.kind a.outer_region path a.outer_within
+saying kind.Pack path a = here kind.Pack path a
+saying kind.Body path a = here kind.Body path a
+saying kind.TypeDecl path a = here kind.TypeDecl path a
+saying kind.Subtype path a = here kind.Subtype path a
+saying kind.Private path a = here kind.Private path a
+saying kind.For path a = here kind.For path a
+saying kind.Reverse path a = here kind.Reverse path a
+saying kind.Lemma path a = here kind.Lemma path a
+saying kind.Where path a = here kind.Where path a
+saying kind.Op path a = alone kind.Op path
+saying kind.Trait path a = alone kind.Trait path
+saying kind.In path a = alone kind.In path
+saying kind.Out path a = alone kind.Out path
+saying kind.RaiseC path a = alone kind.RaiseC path
+saying kind.Invariant path a = alone kind.Invariant path
+saying kind.Assert path a = alone kind.Assert path
+saying kind.Eqn path a = alone kind.Eqn path
+saying kind.Old path a = alone kind.Old path
+saying kind.View path a = bound kind.View path 0
+saying kind.All path a = bound kind.All path 1
+saying kind.Exists path a = bound kind.Exists path 1
+saying _ path a = silent
+
+-- its entry, after those that stand before it
+abbrev pub said : List ℕ → List ℕ → List Entry → Saying → Option Entry
+said text path es silent = None
+said text path es (says k region from within) = Some (entry es k text path region from within)
+
 abbrev pub own : Kind → List ℕ → List ℕ → Around → List Entry → Option Entry
-own kind.Id text path a es = Some (entry es a.kind text path a.region a.until a.within)
-own kind.Name text path a es = clause_name a.kind text path a es
-own kind.Proc text path a es = Some (entry es a.kind text path a.outer_region path a.outer_within)
-own kind.Func text path a es = Some (entry es a.kind text path a.outer_region path a.outer_within)
-own kind.Pack text path a es = here kind.Pack text path a es
-own kind.Body text path a es = here kind.Body text path a es
-own kind.TypeDecl text path a es = here kind.TypeDecl text path a es
-own kind.Subtype text path a es = here kind.Subtype text path a es
-own kind.Private text path a es = here kind.Private text path a es
-own kind.For text path a es = here kind.For text path a es
-own kind.Reverse text path a es = here kind.Reverse text path a es
-own kind.Lemma text path a es = here kind.Lemma text path a es
-own kind.Op text path a es = alone kind.Op text path es
-own kind.Trait text path a es = alone kind.Trait text path es
-own kind.In text path a es = alone kind.In text path es
-own kind.Out text path a es = alone kind.Out text path es
-own kind.RaiseC text path a es = alone kind.RaiseC text path es
-own kind.Invariant text path a es = alone kind.Invariant text path es
-own kind.Assert text path a es = alone kind.Assert text path es
-own kind.Eqn text path a es = alone kind.Eqn text path es
-own kind.Old text path a es = alone kind.Old text path es
-own kind.View text path a es = bound kind.View text path 0 es
-own kind.All text path a es = bound kind.All text path 1 es
-own kind.Exists text path a es = bound kind.Exists text path 1 es
-own _ text path a es = None
+own k text path a es = said text path es (saying k path a)
 
 -- the region of a package and its body: the package's node, where the body stands after it
 abbrev pub home_of : List ℕ → Option Entry → List ℕ

@@ -64,6 +64,10 @@ space_of kind.Trait = space.Traits
 space_of kind.Lemma = space.Lemmas
 space_of kind.With = space.Withs
 space_of kind.Use = space.Uses
+space_of kind.Global = space.Globals
+space_of kind.Raise = space.Raises
+space_of kind.Name = space.Places
+space_of kind.Select = space.Places
 space_of kind.Body = space.Places
 space_of kind.In = space.Places
 space_of kind.Out = space.Places
@@ -72,6 +76,7 @@ space_of kind.Invariant = space.Places
 space_of kind.Assert = space.Places
 space_of kind.Old = space.Places
 space_of kind.Eqn = space.Places
+space_of kind.Where = space.Places
 space_of _ = space.Names
 
 -- A body completes an earlier declaration of its name, and a type of a package's private part a private one.

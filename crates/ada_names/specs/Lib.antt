@@ -4,5 +4,5 @@ pub mod Tables
 pub mod Entries
 pub mod Collecting
 pub mod Sees
+pub mod Clauses
 pub mod Repeats
-pub mod Laws

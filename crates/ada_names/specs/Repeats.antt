@@ -1,4 +1,4 @@
--- Which declarations stand where their name is taken, and which number a declaration has.
+-- Which declarations and clauses stand where what they say is taken, and which number a declaration has.
 use Rattle.std.specs.Prelude.{◌≡◌, ℕ, zero, suc, List, [], ◌∷◌, take, length, Bool, true, false, not, ◌&&◌, ◌||◌, nat_le, bytes_eq, Option, Some, None, is_some, Result, Ok, Err, find, option_map, if◌then◌else◌}
 use Rattle.base_kit.specs.declared.fault.Code.TheVariants as code
 use Rattle.base_kit.specs.declared.fault.Stop.{Stop}
@@ -12,6 +12,7 @@ use Rattle.ada_names.specs.declared.entry.Space.{Space}
 use Rattle.ada_names.specs.declared.entry.Space.TheVariants as space
 use Rattle.ada_names.specs.Places.{has_ended}
 use Rattle.ada_names.specs.Entries.{is_space, first_of, entry_at, has_number}
+use Rattle.ada_names.specs.Clauses.{is_other, is_in_subprogram, is_clause_again, is_block_again}
 
 -- ---- a name that its region has already
 
@@ -24,10 +25,6 @@ stands_once space.Operators = true
 stands_once space.Traits = true
 stands_once space.Lemmas = true
 stands_once _ = false
-
-abbrev pub is_other : Entry → Option Entry → Bool
-is_other e (Some first) = not (bytes_eq first.place e.place)
-is_other e None = false
 
 -- a declaration after the first of its name in its region; a second body, or a second full type, likewise
 abbrev pub is_repeated : List Entry → Entry → Bool
@@ -53,23 +50,18 @@ abbrev pub hides_from : List Entry → Entry → ℕ → Bool
 hides_from es e zero = false
 hides_from es e (suc n) = nat_le (length e.within) n && (is_object_at e.place (first_of es space.Names (take n e.region) e.name) || hides_from es e n)
 
-abbrev pub is_in_subprogram : Entry → Bool
-is_in_subprogram e = by e.within
-  where
-    by : List ℕ → Bool
-    by [] = false
-    by (x ∷ xs) = true
-
 -- A declaration in a subprogram may not bear the name of an object of that subprogram that is visible there.
 abbrev pub hides_object : List Entry → Entry → Bool
 hides_object es e = is_some e.number && is_in_subprogram e && hides_from es e (length e.region)
 
+-- ---- all that is refused
+
 abbrev pub is_taken : List Entry → Entry → Bool
-is_taken es e = is_repeated es e || hides_object es e
+is_taken es e = is_repeated es e || hides_object es e || is_clause_again es e || is_block_again es e
 
 -- ---- the number of a declaration
 
--- what is declared at a path: something with this number; a name that is taken already; or nothing that has a number
+-- what stands at a path: a declaration with this number; what is taken already; or nothing that has a number
 pub data Claim : Type 0 where
   numbered : DeclId → Claim
   taken : Claim
@@ -83,7 +75,7 @@ claim_of es (Some e) = if is_taken es e then taken else by e.number
     by None = without
 claim_of es None = without
 
--- what the path of the node that holds a declared name stands for
+-- what stands at the path of a node that holds a declared name, of a mark of a `global` clause, of a raise clause, or of a `where` block
 abbrev pub claim : List Entry → List ℕ → Claim
 claim es path = claim_of es (entry_at es path)
 
@@ -97,7 +89,7 @@ Answers taken path (Err (stop.Fault f)) = f ≡ fault code.F06 path
 Answers without path (Err (stop.Fault f)) = f ≡ fault code.F05 path
 Answers c path (Err stop.Memory) = Unit {0}
 
--- F06 exactly where the name is taken
+-- F06 exactly where it is taken
 abbrev pub Distinct : Claim → List ℕ → Result (Unit {0}) Stop → Type 0
 Distinct taken path (Ok given) = ⊥
 Distinct c path (Ok given) = Unit {0}

@@ -83,6 +83,16 @@ impl Around {
         })
     }
 
+    // What stands before a dot.
+    fn in_prefix(&self, alloc: Global, at: &Path) -> Result<Around, Memory>
+        ensures { IfOk result (λ a. a ≡ spec.in_prefix self.now.kind at.now self.now) }
+    {
+        match self.kind {
+            Kind::Global | Kind::RaiseC => self.in_declaration(alloc, Kind::Select, at),
+            _ => self.copy(alloc),
+        }
+    }
+
     fn in_enumeration(&self, alloc: Global) -> Result<Around, Memory>
         ensures { IfOk result (λ a. a ≡ record self.now { kind = Kind.Enum }) }
     {
@@ -141,6 +151,10 @@ fn down(
             let region = region_in_trait(alloc, at, number)?;
             around.in_region(alloc, &region)
         }
+        Kind::Where => around.in_region(alloc, at),
+        Kind::Global => around.in_declaration(alloc, kind, at),
+        Kind::RaiseC if number == 0 => around.in_declaration(alloc, kind, at),
+        Kind::Select => around.in_prefix(alloc, at),
         _ => around.copy(alloc),
     }
 }
@@ -153,7 +167,7 @@ fn alone(
     at: &Path,
     table: &Table,
 ) -> Result<Option<Entry>, Memory>
-    ensures { IfOk result (λ e. e ≡ spec.alone kind name.now at.now table.now) }
+    ensures { IfOk result (λ e. e ≡ spec.said name.now at.now table.now (spec.alone kind at.now)) }
 {
     let nowhere = Path(Vec::new(alloc));
     let said = Said {
@@ -176,7 +190,7 @@ fn bound(
     number: usize,
     table: &Table,
 ) -> Result<Option<Entry>, Memory>
-    ensures { IfOk result (λ e. e ≡ spec.bound kind name.now at.now number table.now) }
+    ensures { IfOk result (λ e. e ≡ spec.said name.now at.now table.now (spec.bound kind at.now number)) }
 {
     let nowhere = Path(Vec::new(alloc));
     let from = kid(alloc, at, number)?;
@@ -212,6 +226,26 @@ fn until(
         within: &around.within,
     };
     Ok(Some(said.entry(alloc, table)?))
+}
+
+// A node of a mark in a clause.
+fn mark(
+    alloc: Global,
+    kind: Kind,
+    name: &Text,
+    at: &Path,
+    around: &Around,
+    table: &Table,
+) -> Result<Option<Entry>, Memory>
+    ensures { IfOk result (λ e. e ≡ spec.said name.now at.now table.now (spec.mark_in around.now.kind kind at.now around.now)) }
+{
+    let clause = match around.kind {
+        Kind::Global => Kind::Global,
+        Kind::RaiseC => Kind::Raise,
+        Kind::Select => kind,
+        _ => return Ok(None),
+    };
+    until(alloc, clause, name, at, at, around, table)
 }
 
 // A subprogram's name, by its specification.
@@ -252,8 +286,9 @@ fn own(
             Kind::With | Kind::Use => {
                 until(alloc, around.kind, name, at, &around.until, around, table)
             }
-            _ => Ok(None),
+            _ => mark(alloc, Kind::Name, name, at, around, table),
         },
+        Kind::Select => mark(alloc, Kind::Select, name, at, around, table),
         Kind::Proc | Kind::Func => subprogram(alloc, name, at, around, table),
         Kind::Pack
         | Kind::Body
@@ -262,7 +297,8 @@ fn own(
         | Kind::Private
         | Kind::For
         | Kind::Reverse
-        | Kind::Lemma => until(alloc, node.kind, name, at, at, around, table),
+        | Kind::Lemma
+        | Kind::Where => until(alloc, node.kind, name, at, at, around, table),
         Kind::Op
         | Kind::Trait
         | Kind::In

@@ -23,20 +23,25 @@ pub enum Space {
     Withs,
     /// The names of `use` clauses, by region.
     Uses,
-    /// What isn't looked up by name: where a part of an annotation begins that is a term or isn't one, and
-    /// package bodies without their package.
+    /// The marks of `global` clauses: by `where` block and last name.
+    Globals,
+    /// The marks of raise clauses: by `where` block and last name.
+    Raises,
+    /// What isn't looked up by name: where a part of an annotation begins that is a term or isn't one, `where`
+    /// blocks, the prefixes of marks, and package bodies without their package.
     Places,
 }
 
-/// A name that a document declares, binds, or mentions in a `with` or `use` clause; or a place that decides
-/// how names are seen: the node of an annotation at which terms begin (`Space::Places`).
+/// A name that a document declares, binds, or mentions in a `with`, `use`, `global` or raise clause; or a
+/// place that decides how names are seen: the node of an annotation at which terms begin (`Space::Places`).
 #[derive(Drop)]
 pub struct Entry {
     pub space: Space,
     /// The kind of the declaration: `Obj` for the name of a variable, `SubBody` for that of a subprogram
-    /// in its body, `For` for a loop parameter.
+    /// in its body, `For` for a loop parameter. Of a name in a clause, the clause's; of the mark of a raise
+    /// clause it is `Raise`, as `RaiseC` is that of the clause's node.
     pub kind: Kind,
-    /// In upper case; empty where a term begins.
+    /// In upper case; empty where a term or a `where` block begins. Of a mark `P.X` it is X; P has an entry.
     pub name: Text,
     /// The node that holds the name.
     pub place: Path,

@@ -21,6 +21,8 @@ fn space_of(kind: Kind) -> Space
         Kind::Lemma => Space::Lemmas,
         Kind::With => Space::Withs,
         Kind::Use => Space::Uses,
+        Kind::Global => Space::Globals,
+        Kind::Raise => Space::Raises,
         Kind::Body
         | Kind::In
         | Kind::Out
@@ -28,7 +30,10 @@ fn space_of(kind: Kind) -> Space
         | Kind::Invariant
         | Kind::Assert
         | Kind::Old
-        | Kind::Eqn => Space::Places,
+        | Kind::Eqn
+        | Kind::Where
+        | Kind::Name
+        | Kind::Select => Space::Places,
         _ => Space::Names,
     }
 }

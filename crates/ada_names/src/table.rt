@@ -9,6 +9,7 @@ use ada_tree::DeclId;
 use base_kit::{Copied, Memory};
 use indexmap::IndexMap;
 use std::alloc::Global;
+use std::hash::Hash;
 use std::marker::Model;
 
 /// What is looked up by name: a name in a region.
@@ -47,33 +48,19 @@ impl Model for Table {
     ghost invariant = { λ table. Holds ⟦<Key as PartialEq>⟧.eq ⟦<Vec<u32> as PartialEq>⟧.eq table.names table.places table.uses table.numbers table.entries.items };
 }
 
-// Notes the number of a name that has none.
-fn note_name(
-    mut names: IndexMap<Key, usize>,
-    key: Key,
+// Notes the number of a key that has none.
+fn note_first<K: Eq + Hash + Drop>(
+    mut numbers: IndexMap<K, usize>,
+    key: K,
     number: usize,
-) -> Result<IndexMap<Key, usize>, Memory>
-    ensures { IfOk result (λ noted. NotesFirst ⟦<Key as PartialEq>⟧.eq names noted key number) }
+) -> Result<IndexMap<K, usize>, Memory>
+    ensures { IfOk result (λ noted. NotesFirst K.eq numbers noted key number) }
 {
-    if names.get(&key).is_some() {
-        return Ok(names);
+    if numbers.get(&key).is_some() {
+        return Ok(numbers);
     }
-    names.insert(key, number)?;
-    Ok(names)
-}
-
-fn note_place(
-    mut places: IndexMap<Vec<u32>, usize>,
-    place: Vec<u32>,
-    number: usize,
-) -> Result<IndexMap<Vec<u32>, usize>, Memory>
-    ensures { IfOk result (λ noted. NotesFirst ⟦<Vec<u32> as PartialEq>⟧.eq places noted place number) }
-{
-    if places.get(&place).is_some() {
-        return Ok(places);
-    }
-    places.insert(place, number)?;
-    Ok(places)
+    numbers.insert(key, number)?;
+    Ok(numbers)
 }
 
 fn note_use(
@@ -106,7 +93,7 @@ fn with_place(
         return Ok(places);
     }
     let place = Vec::from_slice(alloc, entry.place.0.as_slice())?;
-    note_place(places, place, number)
+    note_first(places, place, number)
 }
 
 fn with_name(
@@ -122,7 +109,7 @@ fn with_name(
         region: Vec::from_slice(alloc, entry.region.0.as_slice())?,
         name: Vec::from_slice(alloc, entry.name.as_bytes())?,
     };
-    note_name(names, key, number)
+    note_first(names, key, number)
 }
 
 // Notes a `use` clause.

@@ -1,5 +1,5 @@
 // What names see, and which declarations stand where their name is taken, in small documents.
-use crate::documents::{CALLED, RENAMED, RENAMED_ALONE, REPEATS, Row, UNITS};
+use crate::documents::{CALLED, LISTED, RENAMED, RENAMED_ALONE, REPEATS, Row, UNITS};
 use ada_names::Table;
 use ada_tree::{DeclId, Kids, Kind, Lookup, Node};
 use base_kit::{Code, Memory, Names, Path, Place, Stop, Text};
@@ -145,6 +145,33 @@ const DECLARED: &[Declared] = &[
     (&[0, 0, 1, 0, 0], Err(Code::F05), true),
 ];
 
+// The marks of `global` clauses, raise clauses and `where` blocks.
+const CLAUSES: &[Declared] = &[
+    // A package variable stands once, by whatever mark.
+    (&[0, 2, 1, 1, 0, 0, 0, 0], Err(Code::F05), true),
+    (&[0, 2, 1, 1, 0, 0, 0, 1], Err(Code::F05), true),
+    (&[0, 2, 1, 1, 0, 0, 0, 2], Err(Code::F06), false),
+    (&[0, 2, 1, 1, 0, 1, 0, 0], Err(Code::F06), false),
+    // Another package's variable of that name.
+    (&[0, 2, 1, 1, 0, 1, 0, 1], Err(Code::F05), true),
+    (&[0, 2, 1, 1, 0, 1, 0, 2], Err(Code::F06), false),
+    // A formal is no package variable, and three parts see nothing.
+    (&[0, 2, 1, 1, 0, 2, 0, 1], Err(Code::F05), true),
+    (&[0, 2, 1, 1, 0, 3, 0, 1], Err(Code::F05), true),
+    // An exception has one clause; the fault is at the clause.
+    (&[0, 2, 1, 1, 0, 4], Err(Code::F05), true),
+    (&[0, 2, 1, 1, 0, 5], Err(Code::F05), true),
+    (&[0, 2, 1, 1, 0, 6], Err(Code::F06), false),
+    (&[0, 2, 1, 1, 0, 6, 0], Err(Code::F05), true),
+    (&[0, 2, 1, 1, 0, 7], Err(Code::F06), false),
+    (&[0, 2, 1, 1, 0, 8], Err(Code::F05), true),
+    // A body has no `where` block where its declaration stands earlier.
+    (&[0, 2, 1, 1], Err(Code::F05), true),
+    (&[0, 3, 1, 1], Err(Code::F05), true),
+    (&[0, 4, 1, 1], Err(Code::F06), false),
+    (&[0, 4, 1, 1, 0, 0, 0, 0], Err(Code::F05), true),
+];
+
 // A number, and the path of its declaration.
 const PLACES: &[(u32, Option<&'static [u32]>)] = &[
     (8, None),
@@ -273,16 +300,20 @@ fn is_declared(alloc: Global, scope: &Scope, row: &Declared) -> Result<bool, Mem
     Ok(once && answers(declared(scope, &at), row.0, row.1))
 }
 
-fn first_undeclared(alloc: Global) -> Result<usize, Memory> {
-    let Some(scope) = scope(alloc, REPEATS)? else {
+fn first_undeclared(
+    alloc: Global,
+    document: &[Row],
+    declared: &[Declared],
+) -> Result<usize, Memory> {
+    let Some(scope) = scope(alloc, document)? else {
         return Ok(0);
     };
-    for (number, row) in DECLARED.iter().enumerate() {
+    for (number, row) in declared.iter().enumerate() {
         if !is_declared(alloc, &scope, row)? {
             return Ok(number);
         }
     }
-    Ok(DECLARED.len())
+    Ok(declared.len())
 }
 
 fn is_placed(
@@ -344,7 +375,15 @@ fn names_of_a_renamed_unit_see_nothing(rt: HostRuntime) -> Result<(), Fail> {
 
 #[test]
 fn declarations_have_their_numbers_or_are_refused(rt: HostRuntime) -> Result<(), Fail> {
-    assert_eq!(rt; first_undeclared(rt.alloc())?, DECLARED.len());
+    let undeclared = first_undeclared(rt.alloc(), REPEATS, DECLARED)?;
+    assert_eq!(rt; undeclared, DECLARED.len());
+    Ok(())
+}
+
+#[test]
+fn clauses_list_things_once(rt: HostRuntime) -> Result<(), Fail> {
+    let unlisted = first_undeclared(rt.alloc(), LISTED, CLAUSES)?;
+    assert_eq!(rt; unlisted, CLAUSES.len());
     Ok(())
 }
 

@@ -1,4 +1,4 @@
-// Which declarations stand where their name is taken, and which number a declaration has.
+// Which declarations and clauses stand where what they say is taken, and which number a declaration has.
 ghost use Rattle.std.specs.Prelude.{◌≡◌, take, length, IfOk};
 ghost use Rattle.ada_names.specs.Entries.{entry_at, first_of};
 ghost use Rattle.ada_names.specs.Repeats as spec;
@@ -68,9 +68,7 @@ impl Scope {
         if entry.number.is_none() || entry.within.0.is_empty() {
             return Ok(false);
         }
-        let mut depth = entry.region.0.len();
-        while depth > entry.within.0.len() {
-            depth -= 1;
+        for depth in (entry.within.0.len()..entry.region.0.len()).rev() {
             if self.is_object_at(entry, depth)? {
                 return Ok(true);
             }
@@ -81,12 +79,18 @@ impl Scope {
     fn is_taken(&self, entry: &Entry) -> Result<bool, Memory>
         ensures { IfOk result (λ b. b ≡ spec.is_taken self.now entry.now) }
     {
-        Ok(self.is_repeated(entry)? || self.hides_object(entry)?)
+        Ok(
+            self.is_repeated(entry)?
+                || self.hides_object(entry)?
+                || self.is_clause_again(entry)?
+                || self.is_block_again(entry)?,
+        )
     }
 }
 
 /// The number of the declaration whose name the node at this path holds. F06 at the path exactly where
-/// its region has the name already, or where it hides an object of its subprogram. F05 where nothing with a
+/// its region has the name already, or where it hides an object of its subprogram; at a mark of a `global`
+/// clause, a raise clause and a `where` block exactly where `distinct` has it. F05 where nothing with a
 /// number is declared there: a package body without its package, a name that has no number, or no name.
 pub fn declared(scope: &Scope, at: &Path) -> Result<DeclId, Stop>
     ensures { spec.Answers (spec.claim scope.now at.now) at.now result }
@@ -105,7 +109,9 @@ pub fn declared(scope: &Scope, at: &Path) -> Result<DeclId, Stop>
 
 /// F06 at the path exactly where the node there holds a name that its region has already, or that hides
 /// an object of its subprogram: also a component, a lemma, a trait, or a variable of a trait, which have no
-/// number.
+/// number; where it is a mark of a `global` clause, or a raise clause, whose package variable or exception
+/// its `where` block lists already; and where it is the `where` block of a body whose declaration stands
+/// earlier.
 pub fn distinct(scope: &Scope, at: &Path) -> Result<(), Stop>
     ensures { spec.Distinct (spec.claim scope.now at.now) at.now result }
 {

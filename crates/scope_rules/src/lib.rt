@@ -1,7 +1,8 @@
-//! What names see, and which declarations are duplicates.
+//! What names see, and which declarations and clauses are duplicates.
 #![tactic(auto)]
 
 mod claims;
+mod clauses;
 mod context;
 mod found;
 mod outward;

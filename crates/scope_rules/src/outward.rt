@@ -1,5 +1,5 @@
 // Direct visibility: from the regions round a place outward.
-ghost use Rattle.std.specs.Prelude.{◌≡◌, take, length, IfOk};
+ghost use Rattle.std.specs.Prelude.{◌≡◌, ◌+◌, ◌<◌, take, length, IfOk};
 ghost use Rattle.std.specs.Option.{option_copied};
 ghost use Rattle.ada_names.specs.Entries.{first_of};
 ghost use Rattle.ada_names.specs.Sees as spec;
@@ -8,6 +8,7 @@ use crate::scope::Scope;
 use ada_names::{Entry, Key, Space, has_ended, is_in, kid};
 use ada_tree::Kind;
 use base_kit::{Copied, Memory, Path, Text};
+use std::alloc::Global;
 
 /// Whether a declaration is visible at a place.
 pub fn is_visible(place: &Path, entry: &Entry) -> bool
@@ -15,6 +16,16 @@ pub fn is_visible(place: &Path, entry: &Entry) -> bool
 {
     has_ended(entry.from.0.as_slice(), place.0.as_slice())
         || (entry.kind == Kind::Pack && is_in(entry.place.0.as_slice(), place.0.as_slice()))
+}
+
+/// The node round a place that has this many nodes round it below the document.
+pub fn front_at(alloc: Global, place: &Path, depth: usize) -> Result<Path, Memory>
+    requires { depth < length place.now }
+    ensures { IfOk result (λ front. front ≡ take (depth + 1) place.now) }
+{
+    let mut front = Vec::from_slice(alloc, place.0.as_slice())?;
+    front.truncate(depth + 1);
+    Ok(Path(front))
 }
 
 impl Scope {
@@ -66,32 +77,32 @@ impl Scope {
         }
     }
 
-    /// The region that begins at the node above the place at this depth.
+    /// The region that begins at the node round the place that has this many nodes round it below the
+    /// document.
     pub(crate) fn region_at(&self, place: &Path, depth: usize) -> Result<Path, Memory>
-        ensures { IfOk result (λ region. region ≡ spec.region_of self.now (take depth place.now)) }
+        requires { depth < length place.now }
+        ensures { IfOk result (λ region. region ≡ spec.region_of self.now (take (depth + 1) place.now)) }
     {
-        let mut front = Vec::from_slice(self.alloc, place.0.as_slice())?;
-        front.truncate(depth);
-        self.region_of(Path(front))
+        let front = front_at(self.alloc, place, depth)?;
+        self.region_of(front)
     }
 
-    // What the region at the node above the place at this depth has.
+    // What the region at that node has.
     fn at_depth(&self, place: &Path, name: &Text, depth: usize) -> Result<Option<&Entry>, Memory>
-        ensures { IfOk result (λ e. option_copied e ≡ spec.in_region self.now place.now name.now (spec.region_of self.now (take depth place.now))) }
+        requires { depth < length place.now }
+        ensures { IfOk result (λ e. option_copied e ≡ spec.in_region self.now place.now name.now (spec.region_of self.now (take (depth + 1) place.now))) }
     {
         let region = self.region_at(place, depth)?;
         self.in_region(place, name, &region)
     }
 
-    #[tactic(auto, using(crate::proofs::Steps::seen_further, crate::proofs::Steps::seen_here))]
+    #[tactic(auto, using(crate::proofs::Steps::seen_further))]
     fn seen(&self, place: &Path, name: &Text) -> Result<Option<&Entry>, Memory>
         ensures { IfOk result (λ e. option_copied e ≡ spec.seen_from self.now place.now name.now (length place.now)) }
     {
-        let mut depth = place.0.len();
-        while depth > 0 {
-            match self.at_depth(place, name, depth)? {
-                Some(entry) => return Ok(Some(entry)),
-                None => depth -= 1,
+        for depth in (0..place.0.len()).rev() {
+            if let Some(entry) = self.at_depth(place, name, depth)? {
+                return Ok(Some(entry));
             }
         }
         self.outermost(place, name)

@@ -66,8 +66,8 @@ impl Scope {
         }
     }
 
-    // A name of two parts.
-    fn pair(&self, place: &Path, prefix: &Text, name: &Text) -> Result<Found<'_>, Memory>
+    /// What a name of two parts is found to be.
+    pub(crate) fn pair(&self, place: &Path, prefix: &Text, name: &Text) -> Result<Found<'_>, Memory>
         ensures { IfOk result (λ f. found_copied f ≡ spec.found self.now (prefix.now ∷ name.now ∷ []) place.now) }
     {
         if self.is_in_trait(place)? {

@@ -1,11 +1,12 @@
 // Places in terms of annotations, where objects come first and then operators.
-ghost use Rattle.std.specs.Prelude.{◌≡◌, take, length, IfOk};
+ghost use Rattle.std.specs.Prelude.{◌≡◌, ◌+◌, ◌<◌, take, length, IfOk};
 ghost use Rattle.std.specs.Option.{option_copied};
 ghost use Rattle.ada_names.specs.Sees as spec;
 ghost use Rattle.ada_names.specs.Entries.{entry_at};
 ghost use Rattle.scope_rules.specs.Findings.{found_copied};
 
 use crate::found::Found;
+use crate::outward::front_at;
 use crate::scope::Scope;
 use ada_names::{Entry, Space, has_ended, is_in, kid};
 use ada_tree::Kind;
@@ -31,11 +32,11 @@ fn begins_term(alloc: Global, place: &Path, entry: &Entry) -> Result<Option<bool
 
 impl Scope {
     fn term_at(&self, place: &Path, depth: usize) -> Result<Option<bool>, Memory>
-        ensures { IfOk result (λ b. b ≡ spec.term_at place.now (entry_at self.now (take depth place.now))) }
+        requires { depth < length place.now }
+        ensures { IfOk result (λ b. b ≡ spec.term_at place.now (entry_at self.now (take (depth + 1) place.now))) }
     {
-        let mut front = Vec::from_slice(self.alloc, place.0.as_slice())?;
-        front.truncate(depth);
-        match self.table.at(&front) {
+        let front = front_at(self.alloc, place, depth)?;
+        match self.table.at(&front.0) {
             Some(entry) => begins_term(self.alloc, place, entry),
             None => Ok(None),
         }
@@ -45,11 +46,9 @@ impl Scope {
     fn is_in_term(&self, place: &Path) -> Result<bool, Memory>
         ensures { IfOk result (λ b. b ≡ spec.is_in_term self.now place.now) }
     {
-        let mut depth = place.0.len();
-        while depth > 0 {
-            match self.term_at(place, depth)? {
-                Some(term) => return Ok(term),
-                None => depth -= 1,
+        for depth in (0..place.0.len()).rev() {
+            if let Some(term) = self.term_at(place, depth)? {
+                return Ok(term);
             }
         }
         Ok(false)

@@ -106,11 +106,9 @@ impl Scope {
         ensures { IfOk result (λ f. found_copied f ≡ spec.by_use self.now place.now name.now) }
     {
         let mut found = Found::Unseen;
-        let mut depth = place.0.len();
-        while depth > 0 {
+        for depth in (0..place.0.len()).rev() {
             let region = self.region_at(place, depth)?;
             found = self.shown_in(place, name, &region, found)?;
-            depth -= 1;
         }
         self.shown_in_context(place, name, found)
     }

@@ -6,6 +6,3 @@ use Rattle.scope_rules.proofs.scope.Scope.by_use.Given as goal
 -- the clauses of the regions that are left complete what is found
 abbrev pub invariant-loop-depth : goal.invariant-loop-depth
 invariant-loop-depth l = shown_by_all l.self l.place l.name (found_copied l.found) (uses_from l.self l.place l.depth) ≡ by_use l.self l.place l.name
-
-abbrev pub decreases-loop-depth : goal.decreases-loop-depth
-decreases-loop-depth l = l.depth

@@ -5,6 +5,3 @@ use Rattle.scope_rules.proofs.scope.Scope.hides_object.Given as goal
 -- the regions so far have no such object
 abbrev pub invariant-loop-depth : goal.invariant-loop-depth
 invariant-loop-depth l = hides_from l.self l.entry l.depth ≡ hides_from l.self l.entry (length l.entry.region)
-
-abbrev pub decreases-loop-depth : goal.decreases-loop-depth
-decreases-loop-depth l = l.depth

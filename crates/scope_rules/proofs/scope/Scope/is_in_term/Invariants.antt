@@ -5,6 +5,3 @@ use Rattle.scope_rules.proofs.scope.Scope.is_in_term.Given as goal
 -- the nodes so far don't tell
 abbrev pub invariant-loop-depth : goal.invariant-loop-depth
 invariant-loop-depth l = in_term_from l.self l.place l.depth ≡ is_in_term l.self l.place
-
-abbrev pub decreases-loop-depth : goal.decreases-loop-depth
-decreases-loop-depth l = l.depth

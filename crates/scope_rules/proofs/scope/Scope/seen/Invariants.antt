@@ -5,6 +5,3 @@ use Rattle.scope_rules.proofs.scope.Scope.seen.Given as goal
 -- the regions so far have no visible declaration of the name
 abbrev pub invariant-loop-depth : goal.invariant-loop-depth
 invariant-loop-depth l = seen_from l.self l.place l.name l.depth ≡ seen_from l.self l.place l.name (length l.place)
-
-abbrev pub decreases-loop-depth : goal.decreases-loop-depth
-decreases-loop-depth l = l.depth

@@ -7,19 +7,25 @@ use Rattle.std.proofs.lemmas.List.Elements.{Contains-append_left, Contains-appen
 use Rattle.ada_tree.specs.declared.kind.Kind.TheVariants as kind
 use Rattle.ada_names.specs.declared.entry.Entry.{Entry}
 use Rattle.ada_names.specs.declared.entry.Space.TheVariants as space
-use Rattle.ada_names.specs.Places.{has_ended}
+use Rattle.ada_names.specs.Places.{◌▸◌, has_ended, is_in}
 use Rattle.ada_names.specs.Entries.{first_of, entry_at}
 use Rattle.ada_names.specs.Sees.{only, is_visible, is_in_context, region_of, in_region, library_unit, earlier_unit, predefined_name, seen_from, is_entry_of, directly, shown, used_package, shown_by, uses_from, Found, unseen, one, several, joined, shown_by_all, by_use, or_else, plainly, is_in_term, is_value, operator_named, object_first, named}
-use Rattle.ada_names.specs.Laws.{Visible, in_region_round, in_library, named_by_with, by_use_of, operator_before}
-use Rattle.ada_names.specs.Laws as laws
+use Rattle.name_laws.specs.Laws.{Shows, Visible, in_region_round, in_library, named_by_with, by_use_of, operator_before}
+use Rattle.name_laws.specs.Laws as laws
 
-only_is : (test : Entry → Bool) (o : Option Entry) (e : Entry) → only test o ≡ Some e → (o ≡ Some e) × (test e ≡ true)
+pub only_is : (test : Entry → Bool) (o : Option Entry) (e : Entry) → only test o ≡ Some e → (o ≡ Some e) × (test e ≡ true)
 only_is test None e h = absurd cc
 only_is test (Some x) e h = by (test x) refl h
   where
     by : (t : Bool) → test x ≡ t → (if t then Some x else None) ≡ Some e → (Some x ≡ Some e) × (test e ≡ true)
     by true is same = (same, let equal : x ≡ e = cc in sym (ap test equal) ∙ is)
     by false is same = absurd cc
+
+pub shown_shows : (es : List Entry) (place name : List ℕ) (pack e : Entry) → shown es place name pack ≡ Some e → Shows es place name pack e
+shown_shows es place name pack e h =
+    let parts : (first_of es space.Names pack.place name ≡ Some e) × ((is_in (pack.place ▸ 0) e.place && has_ended e.from place) ≡ true) = only_is _ (first_of es space.Names pack.place name) e h in
+    let both : (is_in (pack.place ▸ 0) e.place ≡ true) × (has_ended e.from place ≡ true) = and_parts (is_in (pack.place ▸ 0) e.place) (has_ended e.from place) parts.1 in
+    record { first = parts.0; in_visible_part = both.0; ended = both.1 }
 
 module _ (es : List Entry) (place name : List ℕ) where
   -- ---- direct visibility
@@ -62,7 +68,7 @@ module _ (es : List Entry) (place name : List ℕ) where
   clause_shows clause e here = by (used_package es clause) refl
     where
       by_end : (pack : Entry) → used_package es clause ≡ Some pack → (t : Bool) → has_ended clause.from place ≡ t → (if t then shown es place name pack else None) ≡ Some e → Visible es place name e
-      by_end pack is true ended h = by_use_of clause pack here ended is h
+      by_end pack is true ended h = by_use_of clause pack here ended is (shown_shows es place name pack e h)
       by_end pack is false ended h = absurd cc
 
       by : (o : Option Entry) → used_package es clause ≡ o → (elim o [ Some pack ↦ if has_ended clause.from place then shown es place name pack else None | None ↦ None ]) ≡ Some e → Visible es place name e

@@ -14,21 +14,21 @@ use Rattle.ada_names.specs.declared.entry.Space.TheVariants as space
 use Rattle.ada_names.specs.Places.{◌▸◌, has_ended, is_in}
 use Rattle.ada_names.specs.Entries.{is_space, is_of, is_at, first_of, entry_at, is_use_in, uses_in}
 use Rattle.ada_names.specs.Sees.{only, is_visible, region_of, in_region, unit_of, declaration_unit, is_known_in, is_in_context, library_unit, earlier_unit, is_entry_of, is_in_trait, predefined_name, seen_from, directly, shown, used_package, shown_by, uses_from, Found, unseen, joined, shown_by_all, by_use, or_else, plainly, term_at, or_further, in_term_from, is_in_term, operator_named, object_first, named}
-use Rattle.ada_names.specs.Laws.{renamed, Apart, IsApart, ClausesApart}
+use Rattle.name_laws.specs.Laws.{renamed, Apart, IsApart, ClausesApart}
 
 module _ (at new : List ℕ) where
   abbrev f : Entry → Entry
   f e = renamed at new e
 
   -- what doesn't speak of the name
-  keeps : {A : Type 0} (p : Entry → A) → ((e : Entry) → p (record e { name = new }) ≡ p e) → (e : Entry) → p (f e) ≡ p e
+  pub keeps : {A : Type 0} (p : Entry → A) → ((e : Entry) → p (record e { name = new }) ≡ p e) → (e : Entry) → p (f e) ≡ p e
   keeps p h e = by (bytes_eq e.place at)
     where
       by : (t : Bool) → p (if t then record e { name = new } else e) ≡ p e
       by true = h e
       by false = refl
 
-  fixed_place : (e : Entry) → bytes_eq e.place at ≡ false → f e ≡ e
+  pub fixed_place : (e : Entry) → bytes_eq e.place at ≡ false → f e ≡ e
   fixed_place e h = by (bytes_eq e.place at) h
     where
       by : (t : Bool) → t ≡ false → (if t then record e { name = new } else e) ≡ e
@@ -55,7 +55,7 @@ module _ (at new : List ℕ) where
     region_same : (q : List ℕ) → region_of (map f es) q ≡ region_of es q
     region_same q = asked (λ (o : Option Entry). elim o [ Some e ↦ if is_kind e.kind kind.Body then e.origin else q | None ↦ q ]) (λ e. refl) q es
 
-    entry_of_same : (k : Kind) (p : List ℕ) → is_entry_of k (entry_at (map f es) p) ≡ is_entry_of k (entry_at es p)
+    pub entry_of_same : (k : Kind) (p : List ℕ) → is_entry_of k (entry_at (map f es) p) ≡ is_entry_of k (entry_at es p)
     entry_of_same k p = asked (is_entry_of k) (λ e. refl) p es
 
     unit_same : (unit : List ℕ) → declaration_unit (map f es) unit ≡ declaration_unit es unit
@@ -100,7 +100,7 @@ module _ (at new : List ℕ) where
         by true h = absurd (let no : true ≡ false = sym is ∙ h in cc)
         by false h = refl
 
-    first_same : (s : Space) (r : List ℕ) → first_of (map f es) s r name ≡ first_of es s r name
+    pub first_same : (s : Space) (r : List ℕ) → first_of (map f es) s r name ≡ first_of es s r name
     first_same s r = go es apart.old_name
       where
         go : (xs : List Entry) → AllByRecursion (IsApart at name) xs → first_of (map f xs) s r name ≡ first_of xs s r name

@@ -1,0 +1,9 @@
+pub mod Fronts
+pub mod Hiding
+pub mod Renaming
+pub mod RenamingParts
+pub mod Seeing
+pub mod Parts
+pub mod Retold
+pub mod Along
+pub mod Documents
