@@ -7,7 +7,7 @@ use Rattle.ada_names.specs.declared.entry.Entry.{Entry}
 use Rattle.ada_names.specs.declared.entry.Space.{Space}
 use Rattle.ada_names.specs.declared.entry.Space.TheVariants as space
 use Rattle.ada_names.specs.Places.{◌▸◌}
-use Rattle.ada_names.specs.Entries.{is_space, is_of, entry_at, has_number}
+use Rattle.ada_names.specs.Entries.{is_space, is_of, entry_at}
 use Rattle.ada_names.specs.Sees.{Found, unseen, one, several, found}
 
 -- ---- what a mark names

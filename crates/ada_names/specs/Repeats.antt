@@ -1,5 +1,5 @@
 -- Which declarations and clauses stand where what they say is taken, and which number a declaration has.
-use Rattle.std.specs.Prelude.{◌≡◌, ℕ, zero, suc, List, [], ◌∷◌, take, length, Bool, true, false, not, ◌&&◌, ◌||◌, nat_le, bytes_eq, Option, Some, None, is_some, Result, Ok, Err, find, option_map, if◌then◌else◌}
+use Rattle.std.specs.Prelude.{◌≡◌, ℕ, zero, suc, List, take, length, Bool, true, false, not, ◌&&◌, ◌||◌, nat_le, Option, Some, None, is_some, Result, Ok, Err, find, option_map, if◌then◌else◌}
 use Rattle.base_kit.specs.declared.fault.Code.TheVariants as code
 use Rattle.base_kit.specs.declared.fault.Stop.{Stop}
 use Rattle.base_kit.specs.declared.fault.Stop.TheVariants as stop

@@ -1,6 +1,6 @@
 -- The entries of a tree with another text at one node.
-use Rattle.std.proofs.Common.{◌≡◌, ℕ, zero, suc, ◌+◌, ◌<◌, ◌≤◌, List, [], ◌∷◌, ◌++◌, map, length, append_assoc, append-nil, Bool, true, false, ◌&&◌, ◌⊎◌, inl, inr, Option, Some, None, refl, sym, ap, ◌∙◌, subst, arith}
-use Rattle.std.specs.Prelude.{bytes_eq, nat_eq, Contains, if◌then◌else◌}
+use Rattle.std.proofs.Common.{◌≡◌, ℕ, suc, ◌+◌, ◌<◌, ◌≤◌, List, [], ◌∷◌, ◌++◌, map, length, append_assoc, append-nil, true, false, ◌&&◌, ◌⊎◌, inl, inr, Option, Some, None, refl, sym, ap, ◌∙◌, subst, arith}
+use Rattle.std.specs.Prelude.{bytes_eq, nat_eq, Contains}
 use Rattle.std.specs.List.{AllByRecursion}
 use Rattle.std.proofs.lemmas.Bool.{and_parts, and_left, and_right, and_from, false_from_ne_true}
 use Rattle.std.proofs.lemmas.List.{map-append, length-map}
@@ -238,11 +238,12 @@ module _ (at new : List ℕ) where
   longer_path (x ∷ front) number rest = and_right (nat_eq x x) (bytes_eq front (front ++ number ∷ rest)) (longer_path front number rest)
 
   module _ (k : Kind) (text : List ℕ) (front : List ℕ) (a : Around) (es : List Entry) (before : Before es) (nodes later : List Node) (rest : List ℕ) (there : front ++ length nodes ∷ rest ≡ at) where
+    -- the number of the kid with the path in it
     abbrev n : ℕ
-    n = length (map entries_in nodes)
+    n = 0 + length (map entries_in nodes)
 
     many : n ≡ length nodes
-    many = length-map entries_in nodes
+    many = omega (arith, length-map nodes entries_in)
 
     abbrev mine : Option Entry
     mine = own k text front a es
@@ -272,12 +273,12 @@ module _ (at new : List ℕ) where
         by_own (inl old) = before e old
         by_own (inr same) = subst (λ (q : List ℕ). bytes_eq q at ≡ false) (sym same) not_at
 
-        by : Contains (with_own es mine) e ⊎ InKid front 0 n e → bytes_eq e.place at ≡ false
+        by : Contains (with_own es mine) e ⊎ InKid front 0 (length (map entries_in nodes)) e → bytes_eq e.place at ≡ false
         by (inl old) = by_own (own_inside text front es (saying k front a) e old)
         by (inr (m, low, high, is)) = false_from_ne_true (bytes_eq e.place at) (λ t.
             let same : e.place ≡ at = (bytes_decides e.place at).0 t in
             let inner : is_in (front ▸ m) at ≡ true = subst (λ (q : List ℕ). is_in (front ▸ m) q ≡ true) same is in
-            let outer : is_in (front ▸ m) at ≡ false = beside_it m (λ equal. omega (equal, high)) in
+            let outer : is_in (front ▸ m) at ≡ false = beside_it m (λ equal. omega (arith, equal, high)) in
             cc)
 
     kid_renamed : (old new_one : Within) → (IsAlone at new (with_kid old) → with_kid new_one ≡ map f (with_kid old)) → IsAlone at new (whole old) → whole new_one ≡ map f (whole old)
@@ -288,7 +289,7 @@ module _ (at new : List ℕ) where
         let kid : IsAlone at new (with_kid old) = alone_front (with_kid old) (of_kids gs k home front (n + 1) a (with_kid old)) (kids_add gs (all_add later) k home front (n + 1) a (with_kid old)) all in
         split new_one
         ∙ ap (λ (xs : List Entry). of_kids gs k home front (n + 1) a xs) (further kid)
-        ∙ kids_keep gs (all_keep later) k home front (n + 1) a (with_kid old) (λ m low. beside_it m (λ equal. omega (equal, low))) all
+        ∙ kids_keep gs (all_keep later) k home front (n + 1) a (with_kid old) (λ m low. beside_it m (λ equal. omega (arith, equal, low))) all
         ∙ ap (map f) (sym (split old))
 
   pub along : (path : List ℕ) (x y : Node) → IsRenamed new path x y → (front : List ℕ) (a : Around) (es : List Entry) → front ++ path ≡ at → Before es → IsAlone at new (entries_in x front a es) → entries_in y front a es ≡ map f (entries_in x front a es)
@@ -302,9 +303,9 @@ module _ (at new : List ℕ) where
       let Q : Within → Type 0 = λ g. IsAlone at new (layer (map entries_in (nodes ++ old ∷ later))) → g front a es ≡ map f (layer (map entries_in (nodes ++ old ∷ later))) in
       let R : List Within → Type 0 = λ gs. IsAlone at new (layer gs) → layer (map entries_in (nodes ++ renamed_one ∷ later)) ≡ map f (layer gs) in
       let S : List Within → Type 0 = λ gs. IsAlone at new (layer (map entries_in nodes ++ entries_in old ∷ map entries_in later)) → layer gs ≡ map f (layer (map entries_in nodes ++ entries_in old ∷ map entries_in later)) in
-      let number : length (map entries_in nodes) ≡ length nodes = length-map entries_in nodes in
-      let inner : (front ▸ length (map entries_in nodes)) ++ rest ≡ at = append_assoc front (length (map entries_in nodes) ∷ []) rest ∙ ap (λ (m : ℕ). front ++ m ∷ rest) number ∙ there in
+      let n : ℕ = 0 + length (map entries_in nodes) in
+      let inner : (front ▸ n) ++ rest ≡ at = append_assoc front (n ∷ []) rest ∙ ap (λ (m : ℕ). front ++ m ∷ rest) (many k text front a es before nodes later rest there) ∙ there in
       subst P (sym (node_entries k text notes (nodes ++ old ∷ later))) (subst Q (sym (node_entries k text notes (nodes ++ renamed_one ∷ later)))
       (subst R (sym (map-append entries_in nodes (old ∷ later))) (subst S (sym (map-append entries_in nodes (renamed_one ∷ later)))
       (kid_renamed k text front a es before nodes later rest there (entries_in old) (entries_in renamed_one)
-      (along rest old renamed_one is (front ▸ length (map entries_in nodes)) (down k (home_of front (own k text front a es)) front (length (map entries_in nodes)) a) (of_kids (map entries_in nodes) k (home_of front (own k text front a es)) front 0 a (with_own es (own k text front a es))) inner (middle_before k text front a es before nodes later rest there))))))
+      (along rest old renamed_one is (front ▸ n) (down k (home_of front (own k text front a es)) front n a) (of_kids (map entries_in nodes) k (home_of front (own k text front a es)) front 0 a (with_own es (own k text front a es))) inner (middle_before k text front a es before nodes later rest there))))))

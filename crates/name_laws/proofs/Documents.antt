@@ -1,7 +1,7 @@
 -- A document in which one declaration has a name of its own, and a new one in its place.
 use Rattle.std.proofs.Common.{◌≡◌, ℕ, List, [], ◌∷◌, map, false, refl, ap, ◌∙◌}
 use Rattle.std.specs.Prelude.{bytes_eq, Contains}
-use Rattle.std.specs.List.{All, AllByRecursion}
+use Rattle.std.specs.List.{AllByRecursion}
 use Rattle.std.proofs.lemmas.List.Elements.{All-from_recursion, All-contains}
 use Rattle.ada_tree.specs.declared.node.Node.{Node}
 use Rattle.ada_names.specs.declared.entry.Entry.{Entry}
@@ -18,7 +18,7 @@ module _ (number : ℕ) (rest new : List ℕ) where
 
   -- the predefined names stand nowhere
   nowhere : AllByRecursion (λ e. bytes_eq e.place at ≡ false) predefined
-  nowhere = (refl, refl, refl, refl, refl, refl, refl, refl, refl, tt)
+  nowhere = (refl, (refl, (refl, (refl, (refl, (refl, (refl, (refl, (refl, tt)))))))))
 
   before : (e : Entry) → Contains predefined e → bytes_eq e.place at ≡ false
   before e has = All-contains (λ (x : Entry). bytes_eq x.place at ≡ false) predefined e (All-from_recursion (λ (x : Entry). bytes_eq x.place at ≡ false) predefined nowhere) has

@@ -1,17 +1,16 @@
 -- What the parts of a mark see is visible.
-use Rattle.std.proofs.Common.{◌≡◌, ℕ, List, [], ◌∷◌, Bool, true, false, Option, Some, None, refl, sym, ap, ◌∙◌}
+use Rattle.std.proofs.Common.{◌≡◌, ℕ, List, [], ◌∷◌, Bool, true, false, Option, Some, None, refl, ap, ◌∙◌}
 use Rattle.std.specs.Prelude.{if◌then◌else◌}
 use Rattle.ada_tree.specs.declared.kind.Kind.TheVariants as kind
-use Rattle.ada_tree.specs.declared.node.Node.{Node}
 use Rattle.ada_tree.specs.declared.doc.DeclId.{DeclId}
 use Rattle.ada_tree.specs.Kinds.{is_kind}
-use Rattle.ada_tree.specs.Sights.{Sight, declared, nothing, two}
+use Rattle.ada_tree.specs.Sights.{declared, nothing}
 use Rattle.ada_names.specs.declared.entry.Entry.{Entry}
 use Rattle.ada_names.specs.declared.entry.Space.TheVariants as space
 use Rattle.ada_names.specs.Places.{has_ended}
 use Rattle.ada_names.specs.Entries.{first_of}
 use Rattle.ada_names.specs.Sees.{only, is_in_trait, earlier_unit, shown, Found, unseen, one, several, or_else, named, selected, type_shown, selected_in_trait, found, sight_of, sees_among}
-use Rattle.name_laws.specs.Laws.{Visible, VisibleAs, alone, of_package, type_of_package, IsVisible}
+use Rattle.name_laws.specs.Laws.{VisibleAs, alone, of_package, type_of_package, IsVisible}
 use Rattle.name_laws.proofs.Seeing.{only_is, shown_shows, named_visible}
 
 module _ (es : List Entry) (place prefix name : List ℕ) (e : Entry) where

@@ -1,7 +1,7 @@
 -- What a node says after entries of which one has another name.
-use Rattle.std.proofs.Common.{◌≡◌, ℕ, ◌+◌, List, [], ◌∷◌, ◌++◌, map, Bool, true, false, ◌&&◌, cond, Option, Some, None, refl, sym, ap, ◌∙◌, subst}
+use Rattle.std.proofs.Common.{◌≡◌, ℕ, ◌+◌, List, [], ◌∷◌, map, Bool, true, false, ◌&&◌, cond, Option, Some, None, refl, sym, ap, ◌∙◌, subst}
 use Rattle.std.specs.Prelude.{bytes_eq, Contains, count_by, if◌then◌else◌}
-use Rattle.std.proofs.lemmas.Bool.{and_parts, and_right, and_from, false_from_ne_true}
+use Rattle.std.proofs.lemmas.Bool.{and_parts, and_right, false_from_ne_true}
 use Rattle.std.proofs.lemmas.List.Elements.{Contains-append_left, Contains-append_right, Contains-push}
 use Rattle.std.proofs.lemmas.List.Sums.{sum_by-cons}
 use lib.Pointwise.{bytes_decides}
@@ -12,7 +12,7 @@ use Rattle.ada_names.specs.declared.entry.Space.{Space}
 use Rattle.ada_names.specs.declared.entry.Space.TheVariants as space
 use Rattle.ada_names.specs.Entries.{is_space, is_of, first_of, is_own, completes, space_of, is_numbered, next_number, entry_as, entry}
 use Rattle.ada_names.specs.Collecting.{Saying, silent, says, said}
-use Rattle.name_laws.specs.Laws.{renamed, IsAlone}
+use Rattle.name_laws.specs.Laws.{renamed}
 use Rattle.name_laws.proofs.Renaming.{keeps}
 
 -- ---- lists
