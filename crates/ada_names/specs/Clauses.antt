@@ -50,7 +50,7 @@ is_number None id = false
 
 -- ---- what is listed again
 
--- a mark of the same `where` block and clauses, with the same last name, that lists this
+-- a mark of the same clauses of the same `where` block that lists this; marks that see one declaration end in its name
 abbrev pub lists_there : List Entry → Entry → DeclId → Entry → Bool
 lists_there es mark id other = is_of mark.space mark.region mark.name other && is_number (listed es other) id
 

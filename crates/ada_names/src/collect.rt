@@ -3,7 +3,7 @@ ghost use Rattle.std.specs.Prelude.{◌≡◌, [], Some, IfOk};
 ghost use Rattle.ada_tree.specs.Nodes.{kind_of, text_of};
 ghost use Rattle.ada_names.specs.Entries as entries;
 ghost use Rattle.ada_names.specs.Collecting as spec;
-ghost use Rattle.ada_names.specs.Predefined.{with_predefined, predefined};
+ghost use Rattle.ada_names.specs.Predefined.{predefined_entry, with_predefined, predefined};
 
 use crate::entry::{Around, Entry, Space};
 use crate::places::kid;
@@ -354,22 +354,31 @@ fn collect(
     Ok(table)
 }
 
+// The entry of a predefined name after those of the table: it stands nowhere.
+fn predefined_entry(alloc: Global, name: &str, kind: Kind, table: &Table) -> Result<Entry, Memory>
+    ensures { IfOk result (λ e. e ≡ predefined_entry table.now name.now kind) }
+{
+    let name = Text::from(Vec::from_slice(alloc, name.as_bytes())?);
+    let number = table.next_number()?;
+    Ok(Entry {
+        space: Space::Predefined,
+        kind,
+        name,
+        place: Path(Vec::new(alloc)),
+        origin: Path(Vec::new(alloc)),
+        region: Path(Vec::new(alloc)),
+        from: Path(Vec::new(alloc)),
+        within: Path(Vec::new(alloc)),
+        number: Some(number),
+    })
+}
+
 // The table with the predefined names.
 fn with_predefined(alloc: Global, rows: &[(&str, Kind)], mut table: Table) -> Result<Table, Memory>
     ensures { IfOk result (λ after. after ≡ with_predefined (λ row. row.0.now) (λ row. row.1) rows.now table) }
 {
     for (name, kind) in rows {
-        let entry = Entry {
-            space: Space::Predefined,
-            kind: *kind,
-            name: Text::from(Vec::from_slice(alloc, name.as_bytes())?),
-            place: Path(Vec::new(alloc)),
-            origin: Path(Vec::new(alloc)),
-            region: Path(Vec::new(alloc)),
-            from: Path(Vec::new(alloc)),
-            within: Path(Vec::new(alloc)),
-            number: Some(table.next_number()?),
-        };
+        let entry = predefined_entry(alloc, name, *kind, &table)?;
         table = table.with(alloc, entry)?;
     }
     Ok(table)

@@ -304,6 +304,7 @@ pub const RENAMED: &[Row] = calls!("R", "R");
 // --|    asserts for all X : INT; X : INT implies A : TRUE; A : TRUE; end trait;
 // --| trait L is end trait;
 // procedure W;
+// package body W is end W;
 pub const REPEATS: &[Row] = &[
     (0, Kind::Doc, ""),
     (1, Kind::File, ""),
@@ -516,6 +517,10 @@ pub const REPEATS: &[Row] = &[
     (4, Kind::Proc, "W"),
     (5, Kind::None, ""),
     (4, Kind::None, ""),
+    (2, Kind::Unit, ""),
+    (3, Kind::List, ""),
+    (3, Kind::Body, "W"),
+    (4, Kind::List, ""),
 ];
 
 // package P is G : INTEGER := 0; H : INTEGER := 0; E : exception; end P;

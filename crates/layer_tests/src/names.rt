@@ -140,6 +140,8 @@ const DECLARED: &[Declared] = &[
     (&[0, 5, 6, 1], Err(Code::F06), false),
     (&[0, 6], Err(Code::F06), false),
     (&[0, 7, 1, 0], Err(Code::F06), false),
+    // A package's body completes no subprogram.
+    (&[0, 8, 1], Err(Code::F05), true),
     // Nothing is declared there.
     (&[], Err(Code::F05), true),
     (&[0, 0, 1, 0, 0], Err(Code::F05), true),

@@ -18,13 +18,13 @@ use Rattle.ada_names.specs.Entries.{first_of, next_number, entry}
 use Rattle.name_laws.specs.Laws.{renamed, BeginsWith, IsRenamed, here, inside, IsAlone}
 use Rattle.name_laws.proofs.Renaming.{keeps, fixed_place}
 use Rattle.name_laws.proofs.Fronts.{Adds, kids_add, layer_adds, shifted, node_entries, all_add, by_layers}
-use Rattle.name_laws.proofs.Retold.{head_in, tail_in, itself, turned, completed_by, kept_field, said_place, said_after, said_here}
+use Rattle.name_laws.proofs.Retold.{head_in, tail_in, turned, completed_by, kept_field, said_place, said_after, said_here}
 
 -- ---- places below a node
 
 in_itself : (path : List ℕ) → is_in path path ≡ true
 in_itself [] = refl
-in_itself (x ∷ path) = and_from (nat_eq x x) (is_in path path) (and_parts (nat_eq x x) true (itself (x ∷ []))).0 (in_itself path)
+in_itself (x ∷ path) = and_from (nat_eq x x) (is_in path path) (and_parts (nat_eq x x) true ((bytes_decides (x ∷ []) (x ∷ [])).1 refl)).0 (in_itself path)
 
 in_kid : (path : List ℕ) (number : ℕ) (place : List ℕ) → is_in (path ▸ number) place ≡ true → is_in path place ≡ true
 in_kid [] number place h = refl

@@ -1,5 +1,5 @@
 -- What the parts of a mark see is visible.
-use Rattle.std.proofs.Common.{◌≡◌, ℕ, List, [], ◌∷◌, Bool, true, false, Option, Some, None, refl, ap, ◌∙◌}
+use Rattle.std.proofs.Common.{◌≡◌, ℕ, List, [], ◌∷◌, Bool, true, false, Option, Some, None, refl, sym, ap, ◌∙◌}
 use Rattle.std.specs.Prelude.{if◌then◌else◌}
 use Rattle.ada_tree.specs.declared.kind.Kind.TheVariants as kind
 use Rattle.ada_tree.specs.declared.doc.DeclId.{DeclId}
@@ -10,8 +10,8 @@ use Rattle.ada_names.specs.declared.entry.Space.TheVariants as space
 use Rattle.ada_names.specs.Places.{has_ended}
 use Rattle.ada_names.specs.Entries.{first_of}
 use Rattle.ada_names.specs.Sees.{only, is_in_trait, earlier_unit, shown, Found, unseen, one, several, or_else, named, selected, type_shown, selected_in_trait, found, sight_of, sees_among}
-use Rattle.name_laws.specs.Laws.{VisibleAs, alone, of_package, type_of_package, IsVisible}
-use Rattle.name_laws.proofs.Seeing.{only_is, shown_shows, named_visible}
+use Rattle.name_laws.specs.Laws.{VisibleAs, alone, of_package, type_of_package, IsVisible, EndsIn}
+use Rattle.name_laws.proofs.Seeing.{only_is, first_name, visible_name, shown_shows, named_visible}
 
 module _ (es : List Entry) (place prefix name : List ℕ) (e : Entry) where
   abbrev Goal : Type 0
@@ -79,3 +79,8 @@ sees_visible es parts place id = by (found es parts place) refl
     by unseen is h = absurd cc
     by (one e) is h = by_number e is e.number refl h
     by several is h = absurd cc
+
+pub last_name : (es : List Entry) (place : List ℕ) (parts : List (List ℕ)) (e : Entry) → VisibleAs es place parts e → EndsIn parts e.name
+last_name es place parts e (alone name x visible) = ([], ap (λ (n : List ℕ). n ∷ []) (sym (visible_name es place name x visible)))
+last_name es place parts e (of_package prefix name pack x visible is_pack shows) = (prefix ∷ [], ap (λ (n : List ℕ). prefix ∷ n ∷ []) (sym (first_name es space.Names pack.place name x shows.first)))
+last_name es place parts e (type_of_package prefix name pack x trait first ended is_pack shows is_type) = (prefix ∷ [], ap (λ (n : List ℕ). prefix ∷ n ∷ []) (sym (first_name es space.Names pack.place name x shows.first)))

@@ -4,7 +4,6 @@ use Rattle.std.specs.Prelude.{bytes_eq, not, is_some, if◌then◌else◌}
 use Rattle.std.specs.List.{AllByRecursion}
 use Rattle.std.specs.Option.{option_or}
 use Rattle.std.proofs.lemmas.Bool.{and_parts}
-use lib.Pointwise.{bytes_decides}
 use Rattle.ada_tree.specs.declared.kind.Kind.{Kind}
 use Rattle.ada_tree.specs.declared.kind.Kind.TheVariants as kind
 use Rattle.ada_tree.specs.Kinds.{is_kind}
@@ -15,6 +14,7 @@ use Rattle.ada_names.specs.Places.{◌▸◌, has_ended, is_in}
 use Rattle.ada_names.specs.Entries.{is_space, is_of, is_at, first_of, entry_at, is_use_in, uses_in}
 use Rattle.ada_names.specs.Sees.{only, is_visible, region_of, in_region, unit_of, declaration_unit, is_known_in, is_in_context, library_unit, earlier_unit, is_entry_of, is_in_trait, predefined_name, seen_from, directly, shown, used_package, shown_by, uses_from, Found, unseen, joined, shown_by_all, by_use, or_else, plainly, term_at, or_further, in_term_from, is_in_term, operator_named, object_first, named}
 use Rattle.name_laws.specs.Laws.{renamed, Apart, IsApart, ClausesApart}
+use Rattle.name_laws.proofs.Seeing.{is_name, first_name}
 
 module _ (at new : List ℕ) where
   abbrev f : Entry → Entry
@@ -88,11 +88,6 @@ module _ (at new : List ℕ) where
         by true h = ap (λ (b : Bool). is_space e.space s && (bytes_eq e.region r && b)) (apart.new_name ∙ sym h)
         by false h = refl
 
-    is_name : (s : Space) (r : List ℕ) (e : Entry) → is_of s r name e ≡ true → bytes_eq e.name name ≡ true
-    is_name s r e h =
-        let parts : (is_space e.space s ≡ true) × ((bytes_eq e.region r && bytes_eq e.name name) ≡ true) = and_parts (is_space e.space s) (bytes_eq e.region r && bytes_eq e.name name) h in
-        (and_parts (bytes_eq e.region r) (bytes_eq e.name name) parts.1).1
-
     fixed_name : (e : Entry) → IsApart at name e → bytes_eq e.name name ≡ true → f e ≡ e
     fixed_name e h is = by (bytes_eq e.place at) h
       where
@@ -108,16 +103,8 @@ module _ (at new : List ℕ) where
         go (x ∷ xs) h = ap (λ (t : Bool). cond t (Some (f x)) (first_of (map f xs) s r name)) (test_same s r x h.0) ∙ by (is_of s r name x) refl (go xs h.1)
           where
             by : (t : Bool) → is_of s r name x ≡ t → first_of (map f xs) s r name ≡ first_of xs s r name → cond t (Some (f x)) (first_of (map f xs) s r name) ≡ cond t (Some x) (first_of xs s r name)
-            by true is further = ap (λ (e : Entry). Some e) (fixed_name x h.0 (is_name s r x is))
+            by true is further = ap (λ (e : Entry). Some e) (fixed_name x h.0 (is_name s r name x is))
             by false is further = further
-
-    first_name : (s : Space) (r : List ℕ) (xs : List Entry) (e : Entry) → first_of xs s r name ≡ Some e → e.name ≡ name
-    first_name s r [] e h = absurd cc
-    first_name s r (x ∷ xs) e h = by (is_of s r name x) refl h (first_name s r xs e)
-      where
-        by : (t : Bool) → is_of s r name x ≡ t → cond t (Some x) (first_of xs s r name) ≡ Some e → (first_of xs s r name ≡ Some e → e.name ≡ name) → e.name ≡ name
-        by true is h further = let equal : x ≡ e = cc in sym (ap (λ (y : Entry). y.name) equal) ∙ (bytes_decides x.name name).0 (is_name s r x is)
-        by false is h further = further h
 
     module _ (place : List ℕ) where
       known_same : (e : Entry) → e.name ≡ name → (unit : List ℕ) → is_known_in (map f es) e unit ≡ is_known_in es e unit
@@ -136,7 +123,7 @@ module _ (at new : List ℕ) where
       library_same = ap (only (λ e. is_visible place e && is_in_context (map f es) place e)) (first_same space.Names []) ∙ by (first_of es space.Names [] name) refl
         where
           by : (o : Option Entry) → first_of es space.Names [] name ≡ o → only (λ e. is_visible place e && is_in_context (map f es) place e) o ≡ only (λ e. is_visible place e && is_in_context es place e) o
-          by (Some e) is = ap (λ (b : Bool). if is_visible place e && b then Some e else None) (context_same e (first_name space.Names [] es e is))
+          by (Some e) is = ap (λ (b : Bool). if is_visible place e && b then Some e else None) (context_same e (first_name es space.Names [] name e is))
           by None is = refl
 
       predefined_same : predefined_name (map f es) place name ≡ predefined_name es place name

@@ -25,9 +25,6 @@ tail_in x xs y has = Contains-append_right (x ∷ []) xs y has
 
 -- ---- equal texts
 
-pub itself : (xs : List ℕ) → bytes_eq xs xs ≡ true
-itself xs = (bytes_decides xs xs).1 refl
-
 pub turned : (xs ys : List ℕ) → bytes_eq xs ys ≡ false → bytes_eq ys xs ≡ false
 turned xs ys h = false_from_ne_true (bytes_eq ys xs) (λ t. let other : bytes_eq xs ys ≡ true = (bytes_decides xs ys).1 (sym ((bytes_decides ys xs).0 t)) in cc)
 
@@ -137,5 +134,5 @@ module _ (at new : List ℕ) where
       let none_old : first_of es space.Names region old ≡ None = nothing_there space.Names region old es alone in
       let made : Entry = entry_as (space_of k) k old at at region from within (if is_numbered k then Some (next_number es) else None) in
       ap (λ (o : Option Entry). entry_by k new at region from within (next_number es) (completed_by k region at o)) none_new
-      ∙ sym (ap (λ (t : Bool). if t then record made { name = new } else made) (itself at))
+      ∙ sym (ap (λ (t : Bool). if t then record made { name = new } else made) ((bytes_decides at at).1 refl))
       ∙ sym (ap (λ (o : Option Entry). f (entry_by k old at region from within (next_number es) (completed_by k region at o))) none_old)

@@ -1,14 +1,16 @@
 -- What is seen is visible.
-use Rattle.std.proofs.Common.{◌≡◌, ℕ, zero, suc, ◌≤◌, List, [], ◌∷◌, take, length, Bool, true, false, ◌&&◌, ◌||◌, Option, Some, None, refl, sym, ap, ◌∙◌, arith}
+use Rattle.std.proofs.Common.{◌≡◌, ℕ, zero, suc, ◌≤◌, List, [], ◌∷◌, take, length, Bool, true, false, ◌&&◌, ◌||◌, cond, Option, Some, None, refl, sym, ap, ◌∙◌, arith}
 use Rattle.std.specs.Prelude.{Contains, bytes_eq, if◌then◌else◌, is_none}
 use Rattle.std.specs.Option.{option_or}
 use Rattle.std.proofs.lemmas.Bool.{and_parts}
+use lib.Pointwise.{bytes_decides}
 use Rattle.std.proofs.lemmas.List.Elements.{Contains-append_left, Contains-append_right, Contains-push}
 use Rattle.ada_tree.specs.declared.kind.Kind.TheVariants as kind
 use Rattle.ada_names.specs.declared.entry.Entry.{Entry}
+use Rattle.ada_names.specs.declared.entry.Space.{Space}
 use Rattle.ada_names.specs.declared.entry.Space.TheVariants as space
 use Rattle.ada_names.specs.Places.{◌▸◌, has_ended, is_in}
-use Rattle.ada_names.specs.Entries.{first_of, entry_at}
+use Rattle.ada_names.specs.Entries.{is_space, is_of, first_of, entry_at}
 use Rattle.ada_names.specs.Sees.{only, is_visible, is_in_context, region_of, in_region, library_unit, earlier_unit, predefined_name, seen_from, is_entry_of, directly, shown, used_package, shown_by, uses_from, Found, unseen, one, several, joined, shown_by_all, by_use, or_else, plainly, is_in_term, is_value, operator_named, object_first, named}
 use Rattle.name_laws.specs.Laws.{Shows, Visible, in_region_round, in_library, named_by_with, by_use_of, operator_before}
 use Rattle.name_laws.specs.Laws as laws
@@ -20,6 +22,31 @@ only_is test (Some x) e h = by (test x) refl h
     by : (t : Bool) → test x ≡ t → (if t then Some x else None) ≡ Some e → (Some x ≡ Some e) × (test e ≡ true)
     by true is same = (same, let equal : x ≡ e = cc in sym (ap test equal) ∙ is)
     by false is same = absurd cc
+
+-- ---- what is found has the name that was looked up
+
+pub is_name : (s : Space) (r name : List ℕ) (e : Entry) → is_of s r name e ≡ true → bytes_eq e.name name ≡ true
+is_name s r name e h =
+    let parts : (is_space e.space s ≡ true) × ((bytes_eq e.region r && bytes_eq e.name name) ≡ true) = and_parts (is_space e.space s) (bytes_eq e.region r && bytes_eq e.name name) h in
+    (and_parts (bytes_eq e.region r) (bytes_eq e.name name) parts.1).1
+
+pub first_name : (es : List Entry) (s : Space) (r name : List ℕ) (e : Entry) → first_of es s r name ≡ Some e → e.name ≡ name
+first_name [] s r name e h = absurd cc
+first_name (x ∷ es) s r name e h = by (is_of s r name x) refl h (first_name es s r name e)
+  where
+    by : (t : Bool) → is_of s r name x ≡ t → cond t (Some x) (first_of es s r name) ≡ Some e → (first_of es s r name ≡ Some e → e.name ≡ name) → e.name ≡ name
+    by true is h further = let equal : x ≡ e = cc in sym (ap (λ (y : Entry). y.name) equal) ∙ (bytes_decides x.name name).0 (is_name s r name x is)
+    by false is h further = further h
+
+pub visible_name : (es : List Entry) (place name : List ℕ) (e : Entry) → Visible es place name e → e.name ≡ name
+visible_name es place name e (in_region_round n within first visible) = first_name es space.Names (region_of es (take (suc n) place)) name e first
+visible_name es place name e (in_library first visible context) = first_name es space.Names [] name e first
+visible_name es place name e (named_by_with first ended) = first_name es space.Names [] name e first
+visible_name es place name e (laws.predefined_name first) = first_name es space.Predefined [] name e first
+visible_name es place name e (by_use_of clause pack here ended used shows) = first_name es space.Names pack.place name e shows.first
+visible_name es place name e (operator_before first ended) = first_name es space.Operators [] name e first
+
+-- ---- what packages show
 
 pub shown_shows : (es : List Entry) (place name : List ℕ) (pack e : Entry) → shown es place name pack ≡ Some e → Shows es place name pack e
 shown_shows es place name pack e h =

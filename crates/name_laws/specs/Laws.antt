@@ -41,6 +41,10 @@ pub data VisibleAs (es : List Entry) (place : List ℕ) : List (List ℕ) → En
   -- the place is in a trait, and it is a type that an earlier package shows
   type_of_package : (prefix name : List ℕ) (pack e : Entry) → is_in_trait es place ≡ true → first_of es space.Names [] prefix ≡ Some pack → has_ended pack.from place ≡ true → is_kind pack.kind kind.Pack ≡ true → Shows es place name pack e → is_kind e.kind kind.TypeDecl ≡ true → VisibleAs es place (prefix ∷ name ∷ []) e
 
+-- the last of the parts is this name
+abbrev pub EndsIn : List (List ℕ) → List ℕ → Type 0
+EndsIn parts name = (before : List (List ℕ)) × (parts ≡ before ++ name ∷ [])
+
 -- The declaration of this number is visible at the place under these parts.
 pub record IsVisible (es : List Entry) (place : List ℕ) (parts : List (List ℕ)) (id : DeclId) : Type 0 where
   pub declaration : Entry

@@ -7,7 +7,7 @@ ghost use Rattle.ada_tree.specs.Sights.{declared};
 ghost use Rattle.ada_names.specs.declared.entry.Entry.{Entry};
 ghost use Rattle.ada_names.specs.Collecting.{entries_of};
 ghost use Rattle.ada_names.specs.Sees.{sees, found, one, in_region, region_of, seen_from};
-ghost use Rattle.name_laws.specs.Laws.{VisibleAs, IsVisible, IsFront, BeginsWith, Apart, ClausesApart, renamed, IsRenamed, IsAlone};
+ghost use Rattle.name_laws.specs.Laws.{VisibleAs, IsVisible, EndsIn, IsFront, BeginsWith, Apart, ClausesApart, renamed, IsRenamed, IsAlone};
 
 /// A name sees one declaration at most.
 pub fn a_name_sees_one_declaration()
@@ -25,6 +25,11 @@ pub fn what_is_seen_is_visible()
 /// The same of all that a name is found to be, bound names included.
 pub fn what_is_found_is_visible()
     ensures { (es : List Entry) (parts : List (List ℕ)) (place : List ℕ) (e : Entry) → found es parts place ≡ one e → VisibleAs es place parts e }
+{}
+
+/// It has the last name of the parts: marks that see one declaration end in its name.
+pub fn what_is_found_has_the_last_name()
+    ensures { (es : List Entry) (parts : List (List ℕ)) (place : List ℕ) (e : Entry) → found es parts place ≡ one e → EndsIn parts e.name }
 {}
 
 /// A visible declaration in a region hides those of all regions round it.
