@@ -52,7 +52,7 @@ module _ {A : Type 0} (same : A → A → Bool) (told : (a b : A) → same a b �
       let m = any_has (same a) xs x in
       ap (λ z. list_any (same z) ys) (told a m.0 m.2) ∙ all_has (λ x. list_any (same x) ys) xs m.0 h m.1
 
-  same_lists : (xs ys : List A) → pointwise same xs ys ≡ true → xs ≡ ys
+  pub same_lists : (xs ys : List A) → pointwise same xs ys ≡ true → xs ≡ ys
   same_lists [] [] h = refl
   same_lists [] (y ∷ ys) h = absurd cc
   same_lists (x ∷ xs) [] h = absurd cc
@@ -63,7 +63,7 @@ module _ {A : Type 0} (same : A → A → Bool) (told : (a b : A) → same a b �
 
 -- ---- names
 
-abbrev is_argument : Argument → Argument → Bool
+abbrev pub is_argument : Argument → Argument → Bool
 is_argument a b = sameb argument_row.the_type a b
 
 abbrev same_form : Form → Form → Bool

@@ -1,3 +1,3 @@
-mod apart
+pub mod apart
 mod rendering
-mod round_trip
+pub mod round_trip

@@ -50,7 +50,7 @@ abbrev pub is_short : List ℕ → Bool
 is_short text = is_identifier text && nat_le (length text) LONGEST_NAME
 
 -- what each byte passes in lower case as well, all pass in lower case as well
-list_all-lower : (test : ℕ → Bool) (text : List ℕ) → ((b : ℕ) → test (to_ascii_lowercase b) ≡ test b) → list_all test (map to_ascii_lowercase text) ≡ list_all test text
+pub list_all-lower : (test : ℕ → Bool) (text : List ℕ) → ((b : ℕ) → test (to_ascii_lowercase b) ≡ test b) → list_all test (map to_ascii_lowercase text) ≡ list_all test text
 list_all-lower test [] h = refl
 list_all-lower test (b ∷ text) h = ap (λ t. t && list_all test (map to_ascii_lowercase text)) (h b) ∙ ap (λ t. test b && t) (list_all-lower test text h)
 
@@ -67,7 +67,7 @@ spaced-lower after (b ∷ text) =
     ∙ ap (λ s. cond (b == underscore) (not after && is_spaced true text) s) (spaced-lower false text)
 
 -- an identifier in lower case is one of as many bytes
-short-lower : (text : List ℕ) → is_short (map to_ascii_lowercase text) ≡ is_short text
+pub short-lower : (text : List ℕ) → is_short (map to_ascii_lowercase text) ≡ is_short text
 short-lower text = rw (begins-lower is_ascii_alphabetic text lower_letter, list_all-lower is_word_byte text lower_word, spaced-lower true text, length-map text to_ascii_lowercase) refl
 
 -- a word is an identifier

@@ -47,7 +47,7 @@ name_apart note text h = by_test (list_any is_at_sign text) h
     by_test false h = token_apart (a_name text) h refl
 
 -- an identifier has no `@`
-no_at_sign : (text : List ℕ) → list_all (λ b. is_ascii_alphanumeric b || b == 95) text ≡ true → list_any is_at_sign text ≡ false
+pub no_at_sign : (text : List ℕ) → list_all (λ b. is_ascii_alphanumeric b || b == 95) text ≡ true → list_any is_at_sign text ≡ false
 no_at_sign [] h = refl
 no_at_sign (b ∷ text) h = rw (not_at b (both h).0) (no_at_sign text (both h).1)
   where
