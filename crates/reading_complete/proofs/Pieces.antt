@@ -136,6 +136,11 @@ line_arguments {note = note} {pieces = pieces} {node = node} {k = k} {kids = kid
 
 -- ---- members of the node itself
 
+-- any number of items, and then all is spelled
+abbrev items_pass : Bool → Choice → (Stage → Bool) → List Placed → Bool
+items_pass note place finish line =
+    elim (ending routes place (λ l. finish (l, whole ∷ [])) line) as (λ b. Bool) [ true ↦ some_members routes note place (λ l. finish (l, whole ∷ [])) line | false ↦ false ]
+
 pub line_members : {note : Bool} {place : Choice} {node : Node} {kids : List Node} {events rest : List Event} → MembersRead note place true kids (notes_of node) events rest → IsLineRead note (Members place ∷ []) node kids events rest
 line_members {note = note} {place = place} {node = node} {kids = kids} {events = events} {rest = rest} ms = record {
   first = None;
@@ -143,9 +148,6 @@ line_members {note = note} {place = place} {node = node} {kids = kids} {events =
   reads = λ c front some ks a ss below last finish go stage h. by c front some ks a ss below last finish go stage (both_parts (is_kind c.kind kind.File && not (list_any is_own c.line)) _ h);
 }
   where
-    test : (Stage → Bool) → List Placed → Bool
-    test finish line = elim (ending routes place (λ l. finish (l, whole ∷ [])) line) as (λ b. Bool) [ true ↦ some_members routes note place (λ l. finish (l, whole ∷ [])) line | false ↦ false ]
-
     over : (ns : List Node) → MembersRead note place true ns (notes_of node) events rest → (next : List Placed → Bool) (line : List Placed) → (ending routes place next line ≡ true) × (some_members routes note place next line ≡ true)
         → LeadsMembers next ns (notes_of node) events rest line
     over [] ms next line g = over_no ms next line g.0
@@ -154,10 +156,10 @@ line_members {note = note} {place = place} {node = node} {kids = kids} {events =
     by : (c : Class) (front : Bool) (some : ℕ) (ks : List Node) → IsAhead node c front some None ks kids → (ss : List Placed) (below last : List Held) (finish : Stage → Bool)
         → ((all : List Node) (s : Stage) → finish s ≡ true → in_order all ≡ kids_of node → ReadsFrom node ss below last all rest s) → (stage : Stage)
         → ((is_kind c.kind kind.File && not (list_any is_own c.line)) ≡ true)
-        × (seek c false (at_begun routes (λ line. elim (ending routes place (λ l. finish (l, whole ∷ [])) line) as (λ b. Bool) [ true ↦ some_members routes note place (λ l. finish (l, whole ∷ [])) line | false ↦ false ])) stage ≡ true)
+        × (seek c false (at_begun routes (λ line. items_pass note place finish line)) stage ≡ true)
         → ReadsFrom node ss below last ks events stage
     by c front some ks a ss below last finish go stage h =
-        sought node c ss below last ks events (at_begun routes (λ line. elim (ending routes place (λ l. finish (l, whole ∷ [])) line) as (λ b. Bool) [ true ↦ some_members routes note place (λ l. finish (l, whole ∷ [])) line | false ↦ false ]))
+        sought node c ss below last ks events (at_begun routes (λ line. items_pass note place finish line))
         (λ s g. at s g) stage h.1
       where
         file : is_kind c.kind kind.File ≡ true
@@ -183,7 +185,7 @@ line_members {note = note} {place = place} {node = node} {kids = kids} {events =
             subst (λ x. Reads (line ++ ss) (x ++ below) events last) (sym none.1)
             (l.over kind.File [] ss below last (subst (λ x. Reads (l.to ++ ss) (held.Tree x ∷ below) rest last) (sym same) (go order.0 (l.to, whole ∷ []) l.passed order.1 (held.Tree (bare node) ∷ []) the_whole)))
 
-        at : (s : Stage) → at_begun routes (λ line. elim (ending routes place (λ l. finish (l, whole ∷ [])) line) as (λ b. Bool) [ true ↦ some_members routes note place (λ l. finish (l, whole ∷ [])) line | false ↦ false ]) s ≡ true → ReadsFrom node ss below last ks events s
+        at : (s : Stage) → at_begun routes (λ line. items_pass note place finish line) s ≡ true → ReadsFrom node ss below last ks events s
         at (line, begun ∷ []) g = at_line line (both_parts (ending routes place (λ l. finish (l, whole ∷ [])) line) (some_members routes note place (λ l. finish (l, whole ∷ [])) line) g)
         at _ g = absurd cc
 
