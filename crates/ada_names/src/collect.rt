@@ -45,28 +45,19 @@ impl Around {
     fn in_region(&self, alloc: Global, region: &Path) -> Result<Around, Memory>
         ensures { IfOk result (λ a. a ≡ record self.now { region = region.now }) }
     {
-        Ok(Around {
-            region: region.copy(alloc)?,
-            within: self.within.copy(alloc)?,
-            kind: self.kind,
-            until: self.until.copy(alloc)?,
-            outer_region: self.outer_region.copy(alloc)?,
-            outer_within: self.outer_within.copy(alloc)?,
-        })
+        let mut around = self.copy(alloc)?;
+        around.region = region.copy(alloc)?;
+        Ok(around)
     }
 
     // A declaration, or a clause, begins.
     fn in_declaration(&self, alloc: Global, kind: Kind, at: &Path) -> Result<Around, Memory>
         ensures { IfOk result (λ a. a ≡ spec.declaration_at kind at.now self.now) }
     {
-        Ok(Around {
-            region: self.region.copy(alloc)?,
-            within: self.within.copy(alloc)?,
-            kind,
-            until: at.copy(alloc)?,
-            outer_region: self.outer_region.copy(alloc)?,
-            outer_within: self.outer_within.copy(alloc)?,
-        })
+        let mut around = self.copy(alloc)?;
+        around.kind = kind;
+        around.until = at.copy(alloc)?;
+        Ok(around)
     }
 
     // A subprogram begins.
@@ -96,14 +87,9 @@ impl Around {
     fn in_enumeration(&self, alloc: Global) -> Result<Around, Memory>
         ensures { IfOk result (λ a. a ≡ record self.now { kind = Kind.Enum }) }
     {
-        Ok(Around {
-            region: self.region.copy(alloc)?,
-            within: self.within.copy(alloc)?,
-            kind: Kind::Enum,
-            until: self.until.copy(alloc)?,
-            outer_region: self.outer_region.copy(alloc)?,
-            outer_within: self.outer_within.copy(alloc)?,
-        })
+        let mut around = self.copy(alloc)?;
+        around.kind = Kind::Enum;
+        Ok(around)
     }
 }
 

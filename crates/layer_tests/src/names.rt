@@ -221,7 +221,7 @@ fn take_kids(alloc: Global, built: &mut Vec<(usize, Node)>, depth: usize) -> Res
 }
 
 // The tree of these rows.
-fn tree(alloc: Global, rows: &[Row]) -> Result<Option<Node>, Memory> {
+pub fn tree(alloc: Global, rows: &[Row]) -> Result<Option<Node>, Memory> {
     let mut built = Vec::new(alloc);
     for (depth, kind, text) in rows.iter().rev() {
         let kids = take_kids(alloc, &mut built, *depth)?;

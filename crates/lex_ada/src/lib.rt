@@ -12,3 +12,4 @@ mod words;
 pub use laws::{a_text_has_one_answer, lines_join, tokens_stand_in_order};
 pub use lex::tokens;
 pub use token::{Token, TokenKind, Tokens};
+pub use words::is_spelled;

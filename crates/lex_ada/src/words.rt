@@ -8,8 +8,8 @@ ghost use Rattle.ada_tree.specs.Texts.{is_word_among};
 
 use ada_tree::{RESERVED, WORDS, Word};
 
-// Whether the letters are these, whichever case they have.
-fn is_spelled(text: &str, bytes: &[u8]) -> bool
+/// Whether the letters are those of the text, whichever case they have: the text is in lower case.
+pub fn is_spelled(text: &str, bytes: &[u8]) -> bool
     ensures { result ≡ bytes_eq text.now (map to_ascii_lowercase bytes.now) }
 {
     let text = text.as_bytes();

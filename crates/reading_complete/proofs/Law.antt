@@ -176,7 +176,7 @@ kept_file (choice.Only k) e d = by_kind k e d
     by_kind _ e d = absurd cc
 kept_file _ e d = absurd cc
 
-bare_member : {note : Bool} {place : Choice} {node : Node} {events rest : List Event} → keeps_comments (comments_of place) || is_silent node ≡ true → SpellsNode note place node events rest → bare node ≡ node
+pub bare_member : {note : Bool} {place : Choice} {node : Node} {events rest : List Event} → keeps_comments (comments_of place) || is_silent node ≡ true → SpellsNode note place node events rest → bare node ≡ node
 bare_member {place = place} {node = node} h d = by (keeps_comments (comments_of place)) refl h
   where
     by : (b : Bool) → keeps_comments (comments_of place) ≡ b → (b || is_silent node) ≡ true → bare node ≡ node

@@ -1,10 +1,10 @@
 mod Arguments
 mod Classes
 mod Classify
-mod Held
+pub mod Held
 mod Keys
 mod Kids
-mod Law
+pub mod Law
 mod Lazy
 mod Lists
 mod Members

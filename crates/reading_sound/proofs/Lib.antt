@@ -4,7 +4,7 @@ mod Equal
 mod Follows
 mod Keys
 mod Kids
-mod Law
+pub mod Law
 mod Lines
 mod Lists
 mod Meaning

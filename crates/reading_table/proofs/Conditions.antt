@@ -5,15 +5,14 @@ use Rattle.std.specs.Option.{option_map_or}
 use Rattle.std.proofs.lemmas.Bool.{and_parts}
 use denote.Enum.Declared.{tag_of}
 use Rattle.reading_table.specs.contracts.rule.Rule.{the_type}
-use Rattle.reading_table.specs.declared.rows.TheConstants.{ROWS}
 use Rattle.reading_table.specs.Machine.{hush}
-use Rattle.reading_table.specs.Rows.{Entry, Placed, Part, rows, silence}
+use Rattle.reading_table.specs.Rows.{entries, Entry, Placed, Part, rows, silence}
 use Rattle.reading_table.specs.States.{set_of, closes}
 use Rattle.reading_table.specs.Reading.{reading_table, may_be, deepest}
 use Rattle.reading_table.proofs.Bars.{TokenSet, bars_list}
-use Rattle.reading_table.proofs.Complete.{IsPredictive}
+use Rattle.reading_table.proofs.Complete.{IsPredictive, Good}
 use Rattle.reading_table.proofs.Parts.{tests, of_each_part, agree_on_each_part}
-use Rattle.reading_table.proofs.Predictive.{kept, passes, is_predictive}
+use Rattle.reading_table.proofs.Predictive.{kept, clear_line, passes, good_line, is_predictive, its_bars}
 use Rattle.reading_table.proofs.TokenSets.{holds, apart, covers, parted, covered}
 
 abbrev set_in : Placed → TokenSet
@@ -38,7 +37,7 @@ stills p = map (λ row. kept (silence p) (hush reading_table row)) (rows p)
 abbrev hushes : Part → List (Option (List Placed))
 hushes p = map (hush reading_table) (rows p)
 
-all_still : (note : Bool) → map (λ (e : Entry). stills (note, e.0)) ROWS ≡ map (λ (e : Entry). hushes (note, e.0)) ROWS
+all_still : (note : Bool) → map (λ (e : Entry). stills (note, e.0)) entries ≡ map (λ (e : Entry). hushes (note, e.0)) entries
 all_still false = refl
 all_still true = refl
 
@@ -47,3 +46,14 @@ pub table_is_predictive : IsPredictive reading_table deepest
 table_is_predictive =
     is_predictive reading_table set_in apart covers holds (λ s t h. h) parted covered deepest bars
     (λ s state t h. (and_parts (may_be s t) (closes s.1 state t.lexeme) h).0) (of_each_part test all_pass) (λ p. agree_on_each_part stills hushes all_still p.0 p.1)
+
+-- a stack that passes is one from which what is derived is read
+abbrev pub is_clear : List Placed → Bool
+is_clear line = clear_line reading_table set_in apart covers deepest bars line
+
+pub clear_is_good : (line : List Placed) → is_clear line ≡ true → Good reading_table deepest table_is_predictive line
+unfolding table_is_predictive
+clear_is_good line h =
+    good_line reading_table set_in apart covers holds (λ s t h. h) parted covered deepest bars table_is_predictive
+    (its_bars reading_table set_in apart covers holds (λ s t h. h) parted covered deepest bars
+    (λ s state t h. (and_parts (may_be s t) (closes s.1 state t.lexeme) h).0) (of_each_part test all_pass) (λ p. agree_on_each_part stills hushes all_still p.0 p.1)) line h

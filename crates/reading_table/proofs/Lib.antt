@@ -2,6 +2,7 @@ pub mod Answers
 pub mod Bars
 pub mod Complete
 pub mod Conditions
+pub mod Families
 pub mod Faults
 pub mod Parts
 pub mod Predictive

@@ -11,8 +11,7 @@ use denote.Enum.Declared.{rowss, tag_of}
 use denote.Enum.Bare.{tag_one}
 use Rattle.reading_table.specs.declared.rule.Rule.{Rule}
 use Rattle.reading_table.specs.contracts.rule.Rule.{the_type}
-use Rattle.reading_table.specs.declared.rows.TheConstants.{ROWS}
-use Rattle.reading_table.specs.Rows.{Entry, Part, entry_of}
+use Rattle.reading_table.specs.Rows.{entries, Entry, Part, entry_of}
 
 -- ---- each rule has an entry, and it is its own
 
@@ -26,10 +25,10 @@ abbrev numbers_from : ℕ → List Entry → List Bool
 numbers_from n [] = []
 numbers_from n (e ∷ es) = nat_eq (tag_of the_type e.0) n ∷ numbers_from (suc n) es
 
-in_order : list_all (λ b. b) (numbers_from 0 ROWS) ≡ true
+in_order : list_all (λ b. b) (numbers_from 0 entries) ≡ true
 in_order = refl
 
-as_many : length the_type.parts ≡ length ROWS
+as_many : length the_type.parts ≡ length entries
 as_many = refl
 
 numbered : (n i : ℕ) (es : List Entry) (e : Entry) → list_all (λ b. b) (numbers_from n es) ≡ true → slice_get es i ≡ Some e → tag_of the_type e.0 ≡ n + i
@@ -54,15 +53,15 @@ pub own_entry : (r : Rule) → OwnEntry r
 own_entry r = by (entry_of r) refl
   where
     by : (o : Option Entry) → entry_of r ≡ o → OwnEntry r
-    by (Some e) f = record { entry = e; found = f; own = tag_one the_type tt e.0 r (numbered 0 (tag_of the_type r) ROWS e in_order f ∙ omega arith) }
+    by (Some e) f = record { entry = e; found = f; own = tag_one the_type tt e.0 r (numbered 0 (tag_of the_type r) entries e in_order f ∙ omega arith) }
     by None f =
-        let below : tag_of the_type r < length ROWS = subst (λ n. tag_of the_type r < n) as_many (tag_below the_type.parts (the_type.to r)) in
-        absurd (elim ((slice_get_cases ROWS (tag_of the_type r)).1) [ inl x ↦ (let z : Some x.0 ≡ None = sym x.2 ∙ f in cc) | inr y ↦ omega (arith, y.0) ])
+        let below : tag_of the_type r < length entries = subst (λ n. tag_of the_type r < n) as_many (tag_below the_type.parts (the_type.to r)) in
+        absurd (elim ((slice_get_cases entries (tag_of the_type r)).1) [ inl x ↦ (let z : Some x.0 ≡ None = sym x.2 ∙ f in cc) | inr y ↦ omega (arith, y.0) ])
 
 -- ---- what is tested of all entries, on both sides
 
 abbrev pub tests : (Part → Bool) → Bool
-tests test = list_all (λ (e : Entry). test (false, e.0) && test (true, e.0)) ROWS
+tests test = list_all (λ (e : Entry). test (false, e.0) && test (true, e.0)) entries
 
 tested : (f : Entry → Bool) (es : List Entry) (i : ℕ) (e : Entry) → list_all f es ≡ true → slice_get es i ≡ Some e → f e ≡ true
 tested f [] zero e h g = absurd cc
@@ -73,7 +72,7 @@ tested f (x ∷ es) (suc i) e h g = tested f es i e (and_parts (f x) (list_all f
 pub of_each_part : (test : Part → Bool) → tests test ≡ true → (p : Part) → test p ≡ true
 of_each_part test h p =
     let o = own_entry p.1 in
-    let both = tested (λ (e : Entry). test (false, e.0) && test (true, e.0)) ROWS (tag_of the_type p.1) o.entry h o.found in
+    let both = tested (λ (e : Entry). test (false, e.0) && test (true, e.0)) entries (tag_of the_type p.1) o.entry h o.found in
     at_side p.0 p.1 (subst (λ r. (test (false, r) && test (true, r)) ≡ true) o.own both)
   where
     at_side : (note : Bool) (r : Rule) → (test (false, r) && test (true, r)) ≡ true → test (note, r) ≡ true
@@ -84,11 +83,11 @@ of_each_part test h p =
 mapped : {A B : Type 0} → (f : A → B) (xs : List A) (i : ℕ) (x : A) → slice_get xs i ≡ Some x → slice_get (map f xs) i ≡ Some (f x)
 mapped f xs i x g = slice_get-map f xs i ∙ ap (option_map f) g
 
-pub agree_on_each_part : {A : Type 0} → (f g : Part → A) → ((note : Bool) → map (λ (e : Entry). f (note, e.0)) ROWS ≡ map (λ (e : Entry). g (note, e.0)) ROWS) → (note : Bool) (r : Rule) → f (note, r) ≡ g (note, r)
+pub agree_on_each_part : {A : Type 0} → (f g : Part → A) → ((note : Bool) → map (λ (e : Entry). f (note, e.0)) entries ≡ map (λ (e : Entry). g (note, e.0)) entries) → (note : Bool) (r : Rule) → f (note, r) ≡ g (note, r)
 agree_on_each_part f g h note r =
     let o = own_entry r in
     let i = tag_of the_type r in
     let z : Some (f (note, o.entry.0)) ≡ Some (g (note, o.entry.0)) =
-    sym (mapped (λ (e : Entry). f (note, e.0)) ROWS i o.entry o.found) ∙ ap (λ es. slice_get es i) (h note) ∙ mapped (λ (e : Entry). g (note, e.0)) ROWS i o.entry o.found in
+    sym (mapped (λ (e : Entry). f (note, e.0)) entries i o.entry o.found) ∙ ap (λ es. slice_get es i) (h note) ∙ mapped (λ (e : Entry). g (note, e.0)) entries i o.entry o.found in
     let same : f (note, o.entry.0) ≡ g (note, o.entry.0) = cc in
     subst (λ r. f (note, r) ≡ g (note, r)) o.own same

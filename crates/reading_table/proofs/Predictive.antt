@@ -7,7 +7,7 @@ use Rattle.reading_table.specs.Tables.{View, token, done, part, Table, Has, firs
 use Rattle.reading_table.specs.Machine.{or_else, first_some, after, both, before, hush, lead_at, lead, enter}
 use Rattle.reading_table.proofs.Answers.{after_some, both_some, if_some, first_some_has}
 use Rattle.reading_table.proofs.Sound.{IsQuiet}
-use Rattle.reading_table.proofs.Complete.{EndsWell, IsPredictive}
+use Rattle.reading_table.proofs.Complete.{EndsWell, IsPredictive, Good}
 
 -- ---- tests of lists
 
@@ -93,6 +93,15 @@ module _ {Symbol Part Token State Set : Type 0} (T : Table Symbol Part Token Sta
   abbrev pub rows_apart : ℕ → List (List Symbol) → Bool
   rows_apart depth [] = true
   rows_apart depth (row ∷ rows) = list_all (λ other. all_apart (firsts_line (firsts depth) row) (firsts_line (firsts depth) other)) rows && rows_apart depth rows
+
+  -- behind each part of a line stands nothing that begins with what bars the part
+  abbrev pub clear_at : ℕ → (Part → List Set) → View Part → List Symbol → Bool
+  clear_at depth bars (part m) ss = all_apart (firsts_line (firsts depth) ss) (bars m)
+  clear_at depth bars _ ss = true
+
+  abbrev pub clear_line : ℕ → (Part → List Set) → List Symbol → Bool
+  clear_line depth bars [] = true
+  clear_line depth bars (s ∷ ss) = clear_at depth bars (T.view s) ss && clear_line depth bars ss
 
   abbrev pub ends_at : ℕ → (Part → List Set) → Part → View Part → List Symbol → Bool
   ends_at depth bars p (part m) ss = all_apart (firsts_line (firsts depth) ss) (bars m) && (if is_some (hush T ss) then all_covered (bars m) (bars p) else true)
@@ -245,6 +254,16 @@ module _ {Symbol Part Token State Set : Type 0} (T : Table Symbol Part Token Sta
     unbarred true f = absurd (f refl)
     unbarred false f = refl
 
+    -- nothing that the line begins with bars the part
+    clear : (depth : ℕ) (sets : List Set) (ss : List Symbol) → all_apart (firsts_line (firsts depth) ss) sets ≡ true → (t : Token) (l : List Symbol) → lead T (enter T depth) t ss ≡ Some l → among sets t ≡ false
+    clear depth sets ss h t l e = unbarred (among sets t) (λ b. apart_sets (firsts_line (firsts depth) ss) sets t h (led depth t (begins depth t) ss l e) b)
+
+    pub good_line : (depth : ℕ) (bars : Part → List Set) (P : IsPredictive T depth) → P.bars ≡ (λ p t. among (bars p) t) → (line : List Symbol) → clear_line depth bars line ≡ true → Good T depth P line
+    good_line depth bars P same [] h = tt
+    good_line depth bars P same (s ∷ ss) h =
+        let parts = and_parts (clear_at depth bars (T.view s) ss) (clear_line depth bars ss) h in
+        ((λ m v t l e. ap (λ f. f m t) same ∙ clear depth (bars m) ss (ap (λ v. clear_at depth bars v ss) (sym v) ∙ parts.0) t l e), good_line depth bars P same ss parts.1)
+
     ends_well : (depth : ℕ) (bars : Part → List Set) (p : Part) (line : List Symbol) → ends_line depth bars p line ≡ true → EndsWell T depth (λ p t. among (bars p) t) p line
     ends_well depth bars p [] h = tt
     ends_well depth bars p (s ∷ ss) h =
@@ -259,7 +278,7 @@ module _ {Symbol Part Token State Set : Type 0} (T : Table Symbol Part Token Sta
             → ((l : List Symbol) → lead T (enter T depth) t ss ≡ Some l → among (bars m) t ≡ false) × ((q : List Symbol) → hush T ss ≡ Some q → among (bars m) t ≡ true → among (bars p) t ≡ true)
         behind m h t =
             let parts = and_parts (all_apart (firsts_line (firsts depth) ss) (bars m)) (if is_some (hush T ss) then all_covered (bars m) (bars p) else true) h in (
-              (λ l e. unbarred (among (bars m) t) (λ b. apart_sets (firsts_line (firsts depth) ss) (bars m) t parts.0 (led depth t (begins depth t) ss l e) b)),
+              (λ l e. clear depth (bars m) ss parts.0 t l e),
               (λ q e b. covered_sets (bars m) (bars p) t (by_hush m (hush T ss) parts.1 q e) b),
             )
 
@@ -285,3 +304,8 @@ module _ {Symbol Part Token State Set : Type 0} (T : Table Symbol Part Token Sta
 
         silent : (p : Part) (q : List Symbol) → T.silence p ≡ Some q → keeps_quiet depth bars p (Some q) ≡ true
         silent p q e = ap (keeps_quiet depth bars p) (sym e) ∙ (backs p).0
+
+    pub its_bars : (depth : ℕ) (bars : Part → List Set) (fitting : (s : Symbol) (state : State) (t : Token) → T.fits s state t ≡ true → T.may s t ≡ true)
+        (pass : (p : Part) → passes depth bars p ≡ true) (still : (p : Part) → IsStill p) → (is_predictive depth bars fitting pass still).bars ≡ (λ p t. among (bars p) t)
+    unfolding is_predictive
+    its_bars depth bars fitting pass still = refl

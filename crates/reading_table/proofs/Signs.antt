@@ -153,7 +153,7 @@ came_behind ss values last waiting signs c = record { state = c.state; values_ar
         subst (λ ts. Derives reading_table (end_of signs) ss (state_of values (waiting ++ leading signs)) ts c.state) (sym (t ∙ tokens))
         (subst (λ end. Derives reading_table end ss (state_of values (waiting ++ leading signs)) (record { comments = leading signs; note = note; lexeme = lexeme } ∷ tokens_from [] b) c.state) ends (same_head (leading signs) own))
 
-came_is : (signs : List Sign) (values : List Held) (waiting : List (List ℕ)) → arrived reading_table (end_of signs) (tokens_from [] signs) (state_of values waiting) ≡ state_of values (waiting ++ leading signs)
+pub came_is : (signs : List Sign) (values : List Held) (waiting : List (List ℕ)) → arrived reading_table (end_of signs) (tokens_from [] signs) (state_of values waiting) ≡ state_of values (waiting ++ leading signs)
 came_is signs values waiting = by (behind signs) refl (tokens_behind [] signs) (trailing_behind [] signs)
   where
     by : (b : List Sign) → behind signs ≡ b → tokens_from [] signs ≡ tokens_from (leading signs) (behind signs) → trailing_from [] signs ≡ trailing_from (leading signs) (behind signs)
@@ -169,7 +169,7 @@ came_is signs values waiting = by (behind signs) refl (tokens_behind [] signs) (
         no_comment (token note lexeme ∷ signs) e = cc
     by (token note lexeme ∷ b) e t r = ap (λ ts. arrived reading_table (end_of signs) ts (state_of values waiting)) (t ∙ ap (tokens_from (leading signs)) e)
 
-no_more : (events : List Event) (values : List Held) → arrived event_table (λ values. values) events values ≡ values
+pub no_more : (events : List Event) (values : List Held) → arrived event_table (λ values. values) events values ≡ values
 no_more [] values = refl
 no_more (e ∷ events) values = refl
 
@@ -295,10 +295,10 @@ front_is (comment text ∷ signs) = front_is signs
 front_is (token note lexeme ∷ signs) = refl
 
 -- the events that the signs are read as, where no comment stands first
-record Front (ss : List Placed) (values : List Held) (waiting : List (List ℕ)) (signs : List Sign) (last : List Held) : Type 0 where
-  events : List Event
-  reads : Reads ss values events last
-  attaches : Attached waiting events signs
+pub record Front (ss : List Placed) (values : List Held) (waiting : List (List ℕ)) (signs : List Sign) (last : List Held) : Type 0 where
+  pub events : List Event
+  pub reads : Reads ss values events last
+  pub attaches : Attached waiting events signs
 
 -- what comes at the end, of signs that have a token
 EndIs : (State → State) → List Sign → Type 0
@@ -412,3 +412,11 @@ to_front (acts {s = s} {ss = ss} {ts = ts} {state = state} {last = last} v d) va
         }
 to_front (opens {s = s} {p = p} v m d) values waiting u signs n st e x = let g = to_front d values waiting u signs n st e x in record { events = g.events; reads = opens (part_seen s.0 s.1 p v) m g.reads; attaches = g.attaches }
 to_front (omits {s = s} {p = p} v q d) values waiting u signs n st e x = let g = to_front d values waiting u signs n st e x in record { events = g.events; reads = omits (part_seen s.0 s.1 p v) q g.reads; attaches = g.attaches }
+
+-- Signs are read as events are to which their comments are attached.
+pub signs_are_events : {ss : List Placed} {last : State} (values : List Held) (waiting : List (List ℕ)) (signs : List Sign)
+    → Derives reading_table (end_of signs) ss (arrived reading_table (end_of signs) (tokens_from [] signs) (state_of values waiting)) (tokens_from [] signs) last → Front ss values waiting signs last.values
+unfolding EndIs
+signs_are_events values waiting signs d =
+    let g = to_front d values (waiting ++ leading signs) (leading signs) (behind signs) (front_is signs) (came_is signs values waiting) (tokens_behind [] signs) (end_behind (end_of signs) signs refl) in
+    record { events = g.events; reads = g.reads; attaches = attached_before waiting g.events signs g.attaches }

@@ -1,5 +1,7 @@
 -- The rules and their rows, by the table.
-use Rattle.std.specs.Prelude.{List, [], map, filter, slice_get, Bool, true, false, Option, option_map, option_and_then}
+use Rattle.std.specs.Prelude.{List, [], ◌∷◌, map, filter, slice_get, Bool, true, false, Option, option_map, option_and_then}
+use Rattle.std.specs.Borrow.{Bor}
+use Rattle.std.specs.List.{flat_map}
 use Rattle.std.specs.Option.{option_map_or}
 use denote.Enum.Declared.{tag_of}
 use Rattle.ada_tree.specs.declared.operator.Side.{Side}
@@ -7,7 +9,17 @@ use Rattle.ada_tree.specs.declared.operator.Side.TheVariants as side
 use Rattle.ada_tree.specs.Choices.{has_side}
 use Rattle.reading_table.specs.declared.rule.Rule.{Rule}
 use Rattle.reading_table.specs.contracts.rule.Rule.{the_type}
-use Rattle.reading_table.specs.declared.rows.TheConstants.{ROWS}
+use Rattle.reading_table.specs.declared.rows.annotations.TheConstants.{ANNOTATIONS}
+use Rattle.reading_table.specs.declared.rows.choices.TheConstants.{CHOICES}
+use Rattle.reading_table.specs.declared.rows.declarations.TheConstants.{DECLARATIONS}
+use Rattle.reading_table.specs.declared.rows.levels.TheConstants.{LEVELS}
+use Rattle.reading_table.specs.declared.rows.names.TheConstants.{NAMES}
+use Rattle.reading_table.specs.declared.rows.nodes.TheConstants.{NODES}
+use Rattle.reading_table.specs.declared.rows.primaries.TheConstants.{PRIMARIES}
+use Rattle.reading_table.specs.declared.rows.proofs.TheConstants.{PROOFS}
+use Rattle.reading_table.specs.declared.rows.statements.TheConstants.{STATEMENTS}
+use Rattle.reading_table.specs.declared.rows.traits.TheConstants.{TRAITS}
+use Rattle.reading_table.specs.declared.rows.units.TheConstants.{UNITS}
 use Rattle.reading_table.specs.declared.symbol.Symbol.{Symbol}
 
 abbrev pub Line : Type 0
@@ -17,8 +29,21 @@ Line = List Symbol
 abbrev pub Entry : Type 0
 Entry = Rule × Side × record { now : List (record { now : Line }) } × record { now : List (Side × record { now : Line }) }
 
+-- an entry of the code
+abbrev pub entry_now : (Rule × Side × Bor (List (Bor Line)) × Bor (List (Side × Bor Line))) → Entry
+entry_now e = (
+  e.0,
+  e.1,
+  record { now = map (λ (line : Bor Line). record { now = line.now }) e.2.now },
+  record { now = map (λ (row : Side × Bor Line). (row.0, record { now = row.1.now })) e.3.now },
+)
+
+-- all entries, in the order of the rules
+abbrev pub entries : List Entry
+entries = flat_map (λ family. family) (UNITS ∷ NAMES ∷ DECLARATIONS ∷ STATEMENTS ∷ CHOICES ∷ LEVELS ∷ PRIMARIES ∷ NODES ∷ ANNOTATIONS ∷ TRAITS ∷ PROOFS ∷ [])
+
 abbrev pub entry_of : Rule → Option Entry
-entry_of r = slice_get ROWS (tag_of the_type r)
+entry_of r = slice_get entries (tag_of the_type r)
 
 -- on which side what is of this one stands, where it is read on a side
 abbrev pub turned : Side → Bool → Bool

@@ -11,7 +11,7 @@ mod symbol;
 
 pub use held::Held;
 pub use laws::{reading_stops_where_no_tokens_go_on, the_next_token_tells_the_row};
-pub use rows::{ROWS, Row};
+pub use rows::{Entry, Row, entry};
 pub use rule::Rule;
 pub use starts::STARTS;
 pub use symbol::{Form, Symbol, Tokens};

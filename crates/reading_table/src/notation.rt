@@ -58,3 +58,28 @@ macro_rules! symbol {
         Symbol::EndNotes
     };
 }
+
+#[macro_export]
+macro_rules! row {
+    ([$side:ident] $($symbols:tt)*) => {
+        (Side::$side, $crate::row!(@symbols $($symbols)*))
+    };
+    (@symbols $($symbol:ident $(($($argument:tt)*))?)*) => {
+        &[$($crate::symbol!($symbol $($($argument)*)?)),*]
+    };
+    ($($symbols:tt)*) => {
+        (Side::Both, $crate::row!(@symbols $($symbols)*))
+    };
+}
+
+#[macro_export]
+macro_rules! rules {
+    ($($rule:ident $side:ident $(or($($quiet:ident $(($($word:tt)*))?)*))? { $($([$tag:ident])? $($symbol:ident $(($($argument:tt)*))?)*)|* })*) => {
+        [$((
+            Rule::$rule,
+            Side::$side,
+            &[$(&[$($crate::symbol!($quiet $($($word)*)?)),*])?],
+            &[$($crate::row!($([$tag])? $($symbol $(($($argument)*))?)*)),*],
+        )),*]
+    };
+}

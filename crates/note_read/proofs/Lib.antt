@@ -1,0 +1,11 @@
+mod Advances
+mod Building
+mod Endings
+mod Leads
+mod Lines
+mod Lying
+mod Outcomes
+mod Rows
+mod Runs
+mod Stacks
+mod Steps

@@ -1,0 +1,7 @@
+pub mod Choosing
+pub mod Lexemes
+pub mod Machines
+pub mod Rows
+pub mod Values
+pub mod Views
+pub mod Signs

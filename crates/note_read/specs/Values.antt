@@ -1,0 +1,19 @@
+-- Values of the code as the table has them.
+use Rattle.std.specs.Prelude.{List, [], ◌∷◌, Option, Some, None}
+use Rattle.ada_tree.specs.declared.node.Node.{Node}
+use Rattle.note_read.specs.declared.values.Values.{Values}
+use Rattle.reading_table.specs.declared.held.Held.{Held}
+use Rattle.reading_table.specs.declared.held.Held.TheVariants as held
+use Rattle.reading_table.specs.States.{State}
+
+abbrev pub state_of : Values → State
+state_of v = record { values = v.values; waiting = v.waiting }
+
+-- the value put before the others, if there is one
+abbrev pub with_option : {A : Type 0} → Option A → List A → List A
+with_option None xs = xs
+with_option (Some x) xs = x ∷ xs
+
+abbrev pub only_node : List Held → Option Node
+only_node (held.Tree node ∷ []) = Some node
+only_node _ = None

@@ -1,0 +1,67 @@
+// A stack.
+ghost use Rattle.std.specs.Prelude.{◌≡◌, List, [], ◌∷◌, ◌++◌, take, drop, reverse, slice_get, MatchOption, IfOk, OnOk};
+ghost use Rattle.std.specs.Option.{option_copied};
+
+use base_kit::Memory;
+use std::alloc::Global;
+use std::marker::Model;
+
+/// A `Vec` that contracts see from its last member on.
+#[derive(Drop)]
+pub struct Stack<T> {
+    members: Vec<T>,
+}
+
+impl<T> Model for Stack<T> {
+    ghost use Rattle.std.specs.Prelude.{List, reverse};
+    ghost use Rattle.std.specs.Coded.{coded_list};
+
+    ghost Value = { List T };
+
+    ghost coded = { coded_list T.code };
+
+    ghost view = { λ stack. reverse stack.members.items };
+}
+
+impl<T> Stack<T> {
+    pub fn new(alloc: Global) -> Self
+        ensures { result ≡ [] }
+    {
+        Stack {
+            members: Vec::new(alloc),
+        }
+    }
+
+    pub fn pop(&mut self) -> Option<T>
+        ensures { MatchOption result ((self.old ≡ []) × (self.new ≡ [])) (λ last. self.old ≡ last ∷ self.new) }
+    {
+        self.members.pop()
+    }
+
+    /// The member so many below the last one.
+    pub fn below(&self, depth: usize) -> Option<&T>
+        ensures { option_copied result ≡ slice_get self.now depth }
+    {
+        self.members.iter().rev().nth(depth)
+    }
+}
+
+impl<T: Drop> Stack<T> {
+    pub fn push(&mut self, member: T) -> Result<(), Memory>
+        ensures { OnOk result (self.new ≡ member ∷ self.old) }
+    {
+        self.members.push(member)?;
+        Ok(())
+    }
+
+    /// Takes the last members, so many or all, in the order in which they came.
+    #[tactic(auto, using(crate::proofs::Stacks::last_taken, crate::proofs::Stacks::last_left))]
+    pub fn take_last(&mut self, count: usize) -> Result<Vec<T>, Memory>
+        ensures { IfOk result (λ taken. (reverse taken.items ≡ take count self.old) × (self.new ≡ drop count self.old)) }
+    {
+        Ok(
+            self.members
+                .split_off(self.members.len().saturating_sub(count))?,
+        )
+    }
+}
