@@ -11,20 +11,22 @@ use Rattle.reading_table.proofs.Conditions.{table_is_predictive}
 use Rattle.reading_table.specs.Machine.{apply}
 use Rattle.reading_table.specs.Reading.{reading_table, view_in}
 use Rattle.reading_table.specs.Rows.{Line, Placed, placed, side_in, silence}
-use Rattle.reading_table.specs.States.{Token, State, does, closes}
+use Rattle.reading_table.specs.States.{Token, closes}
 use Rattle.reading_table.specs.Tables.{token, done, part}
+use Rattle.reading_table.specs.Weighed.{Weighed, weighed_table}
+use Rattle.note_read.proofs.WeighedTable.{chosen_same, quiet_same}
 
-pub quiet_fed : (depth : ℕ) (t : Token) (note : Bool) (s : Symbol) (ss : List Placed) (state : State) → view_in note s ≡ done → fed depth t ((note, s) ∷ ss) state ≡ fed depth t ss (does s state)
-quiet_fed depth t note s ss state v = fed_done reading_table depth t (note, s) ss state v
+pub quiet_fed : (depth : ℕ) (t : Token) (note : Bool) (s : Symbol) (ss : List Placed) (state : Weighed) → view_in note s ≡ done → fed depth t ((note, s) ∷ ss) state ≡ fed depth t ss (weighed_table.does (note, s) state)
+quiet_fed depth t note s ss state v = fed_done weighed_table depth t (note, s) ss state v
 
-pub row_fed : (depth : ℕ) (t : Token) (note : Bool) (s : Symbol) (r : Rule) (ss : List Placed) (state : State) (o : Option (Bor Line)) (row : Bor Line) → view_in note s ≡ part (side_in note r, r)
+pub row_fed : (depth : ℕ) (t : Token) (note : Bool) (s : Symbol) (r : Rule) (ss : List Placed) (state : Weighed) (o : Option (Bor Line)) (row : Bor Line) → view_in note s ≡ part (side_in note r, r)
     → option_map (λ row. placed (side_in note r) row.now) o ≡ chosen reading_table depth t (side_in note r, r) → o ≡ Some row
     → (1 ≤ depth) × (fed depth t ((note, s) ∷ ss) state ≡ fed (depth - 1) t (placed (side_in note r) row.now ++ ss) state)
 row_fed zero t note s r ss state o row v e f = absurd (let z : option_map (λ row. placed (side_in note r) row.now) (Some row) ≡ None = ap (λ o. option_map (λ row. placed (side_in note r) row.now) o) (sym f) ∙ e in cc)
 row_fed (suc depth) t note s r ss state o row v e f =
     let d : depth ≡ suc depth - 1 = omega arith in (
       omega arith,
-      fed_row reading_table depth t (note, s) (side_in note r, r) ss (placed (side_in note r) row.now) state v (sym e ∙ ap (λ o. option_map (λ row. placed (side_in note r) row.now) o) f)
+      fed_row weighed_table depth t (note, s) (side_in note r, r) ss (placed (side_in note r) row.now) state v (chosen_same (suc depth) t (side_in note r, r) ∙ sym e ∙ ap (λ o. option_map (λ row. placed (side_in note r) row.now) o) f)
           ∙ ap (λ d. fed d t (placed (side_in note r) row.now ++ ss) state) d,
     )
 
@@ -32,22 +34,22 @@ chosen_none : (depth : ℕ) (t : Token) (note : Bool) (r : Rule) (o : Option (Bo
     → chosen reading_table depth t (side_in note r, r) ≡ None
 chosen_none depth t note r o e f = sym e ∙ ap (λ o. option_map (λ row. placed (side_in note r) row.now) o) f
 
-pub silent_fed : (depth : ℕ) (t : Token) (note : Bool) (s : Symbol) (r : Rule) (ss : List Placed) (state : State) (o q : Option (Bor Line)) (line : Bor Line) → view_in note s ≡ part (side_in note r, r)
+pub silent_fed : (depth : ℕ) (t : Token) (note : Bool) (s : Symbol) (r : Rule) (ss : List Placed) (state : Weighed) (o q : Option (Bor Line)) (line : Bor Line) → view_in note s ≡ part (side_in note r, r)
     → option_map (λ row. placed (side_in note r) row.now) o ≡ chosen reading_table depth t (side_in note r, r) → o ≡ None
     → option_map (λ line. placed (side_in note r) line.now) q ≡ silence (side_in note r, r) → q ≡ Some line
-    → fed depth t ((note, s) ∷ ss) state ≡ fed depth t ss (apply reading_table (placed (side_in note r) line.now) state)
+    → fed depth t ((note, s) ∷ ss) state ≡ fed depth t ss (apply weighed_table (placed (side_in note r) line.now) state)
 silent_fed depth t note s r ss state o q line v e f g h =
     let i : silence (side_in note r, r) ≡ Some (placed (side_in note r) line.now) = sym g ∙ ap (λ q. option_map (λ line. placed (side_in note r) line.now) q) h in
-    fed_silent reading_table depth t (note, s) (side_in note r, r) ss (placed (side_in note r) line.now) state v (chosen_none depth t note r o e f) i
-    (table_is_predictive.quiet (side_in note r, r) (placed (side_in note r) line.now) i)
+    fed_silent weighed_table depth t (note, s) (side_in note r, r) ss (placed (side_in note r) line.now) state v (chosen_same depth t (side_in note r, r) ∙ chosen_none depth t note r o e f) i
+    (quiet_same (placed (side_in note r) line.now) (table_is_predictive.quiet (side_in note r, r) (placed (side_in note r) line.now) i))
 
-pub refused_fed : (depth : ℕ) (t : Token) (note : Bool) (s : Symbol) (r : Rule) (ss : List Placed) (state : State) (o q : Option (Bor Line)) → view_in note s ≡ part (side_in note r, r)
+pub refused_fed : (depth : ℕ) (t : Token) (note : Bool) (s : Symbol) (r : Rule) (ss : List Placed) (state : Weighed) (o q : Option (Bor Line)) → view_in note s ≡ part (side_in note r, r)
     → option_map (λ row. placed (side_in note r) row.now) o ≡ chosen reading_table depth t (side_in note r, r) → o ≡ None
     → option_map (λ line. placed (side_in note r) line.now) q ≡ silence (side_in note r, r) → q ≡ None
     → fed depth t ((note, s) ∷ ss) state ≡ None
 refused_fed depth t note s r ss state o q v e f g h =
-    fed_refused reading_table depth t (note, s) (side_in note r, r) ss state v (chosen_none depth t note r o e f) (sym g ∙ ap (λ q. option_map (λ line. placed (side_in note r) line.now) q) h)
+    fed_refused weighed_table depth t (note, s) (side_in note r, r) ss state v (chosen_same depth t (side_in note r, r) ∙ chosen_none depth t note r o e f) (sym g ∙ ap (λ q. option_map (λ line. placed (side_in note r) line.now) q) h)
 
-pub token_fed : (depth : ℕ) (t : Token) (note : Bool) (s : Symbol) (ss : List Placed) (state : State) → view_in note s ≡ token
-    → fed depth t ((note, s) ∷ ss) state ≡ after_token reading_table (reading_table.fits (note, s) state t) (note, s) ss state t
-token_fed depth t note s ss state v = fed_token reading_table depth t (note, s) ss state v (λ h. (and_parts (reading_table.may (note, s) t) (closes s state t.lexeme) h).0)
+pub token_fed : (depth : ℕ) (t : Token) (note : Bool) (s : Symbol) (ss : List Placed) (state : Weighed) → view_in note s ≡ token
+    → fed depth t ((note, s) ∷ ss) state ≡ after_token weighed_table (weighed_table.fits (note, s) state t) (note, s) ss state t
+token_fed depth t note s ss state v = fed_token weighed_table depth t (note, s) ss state v (λ h. (and_parts (reading_table.may (note, s) t) (closes s state.state t.lexeme) h).0)

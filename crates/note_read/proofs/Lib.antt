@@ -1,6 +1,7 @@
 mod Advances
 mod Building
 mod Endings
+mod Higher
 mod Leads
 mod Lines
 mod Lying
@@ -9,3 +10,5 @@ mod Rows
 mod Runs
 mod Stacks
 mod Steps
+mod WeighedTable
+mod Wide

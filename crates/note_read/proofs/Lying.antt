@@ -1,5 +1,5 @@
 -- The tokens of a source lie in it.
-use Rattle.std.proofs.Common.{arith, ◌≡◌, ℕ, ◌+◌, ◌≤◌, List, [], ◌∷◌, false, subst, length, All}
+use Rattle.std.proofs.Common.{arith, ℕ, ◌≤◌, List, [], ◌∷◌, false, subst, length, All}
 use Rattle.std.proofs.lemmas.List.Elements.{All-nil, All-cons}
 use Rattle.lex_ada.proofs.lexing.Spans.{spans_in_order}
 use Rattle.lex_ada.specs.declared.token.Token.{Token}

@@ -10,11 +10,12 @@ use Rattle.note_read.specs.Choosing.{line_begins, chosen, begins}
 use Rattle.note_read.specs.Rows.{first_row}
 use Rattle.reading_table.specs.Reading.{reading_table}
 use Rattle.reading_table.specs.States.{Token}
+use Rattle.reading_table.specs.declared.need.Sort.{Sort}
 use Rattle.reading_table.specs.declared.rule.Rule.{Rule}
 use Rattle.reading_table.specs.Rows.{Line, Placed, entry_now, entry_of, placed, turned, side_in, rows_at, rows}
 
 abbrev CodeEntry : Type 0
-CodeEntry = Rule × Side × Bor (List (Bor Line)) × Bor (List (Side × Bor Line))
+CodeEntry = Rule × Side × Bor (List (Bor Line)) × Bor (List (Side × Bor Line)) × (Bor (List Sort) × Option Sort × (ℕ × ℕ) × (ℕ × ℕ) × ℕ × ℕ)
 
 module _ (test : List Placed → Bool) where
   row_found : (note : Bool) (rs : List (Side × Bor Line)) → find test (map (λ (row : Side × record { now : Line }). placed note row.1.now)

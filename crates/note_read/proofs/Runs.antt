@@ -1,13 +1,15 @@
 -- Reading signs one by one is reading the tokens that bring the comments before them.
-use Rattle.std.proofs.Common.{◌≡◌, ℕ, zero, suc, List, [], ◌∷◌, ◌++◌, refl, sym, ◌∙◌, ap, Bool, Option, Some, None, Result, append_assoc, append-nil}
+use Rattle.std.proofs.Common.{◌≡◌, ℕ, zero, suc, List, [], ◌∷◌, ◌++◌, refl, sym, ◌∙◌, ap, Bool, Option, Some, None, option_map, if◌then◌else◌, append_assoc, append-nil}
 use Rattle.ada_tree.specs.Tokens.{Lexeme, Sign, token, comment}
-use Rattle.note_read.specs.Signs.{read_signs}
-use Rattle.reading_table.specs.Machine.{or_else, first_some, after, both, before, lead_at, lead, enter, perform_at, perform, performed, feed, going_on, shifted, run}
+use Rattle.note_read.specs.Signs.{read_signs, ended_at, at_first, read_by_table}
+use Rattle.reading_table.specs.Machine.{first_some, after, lead_at, lead, enter, perform_at, perform, performed, feed, hush, apply}
 use Rattle.reading_table.specs.Reading.{reading_table, deepest}
-use Rattle.reading_table.specs.Rows.{Part, Placed, rows, silence}
-use Rattle.reading_table.specs.Signs.{tokens_from, trailing_from, tokens_of, end_of}
+use Rattle.reading_table.specs.Rows.{Part, Placed, rows}
+use Rattle.reading_table.specs.Signs.{tokens_from, trailing_from}
 use Rattle.reading_table.specs.States.{Token, State}
-use Rattle.reading_table.specs.Tables.{View, token as is_token, done, part, arrived}
+use Rattle.reading_table.specs.Tables.{View, token as is_token, done, part}
+use Rattle.reading_table.specs.Limits.{later, limited}
+use Rattle.reading_table.specs.Weighed.{Weighed, weighed_table, Progress, with_token, is_within, ended_by, within_limits, with_next, run_weighed}
 
 first_same : {A B : Type 0} → (f g : A → Option B) → ((x : A) → f x ≡ g x) → (xs : List A) → first_some f xs ≡ first_some g xs
 first_same f g h [] = refl
@@ -22,38 +24,38 @@ module _ (texts : List (List ℕ)) (note : Bool) (lexeme : Lexeme) where
   abbrev without : Token
   without = record { comments = []; note = note; lexeme = lexeme }
 
-  lead_same : (depth : ℕ) → ((p : Part) → enter reading_table depth p with_them ≡ enter reading_table depth p without) → (line : List Placed)
-      → lead reading_table (enter reading_table depth) with_them line ≡ lead reading_table (enter reading_table depth) without line
+  lead_same : (depth : ℕ) → ((p : Part) → enter weighed_table depth p with_them ≡ enter weighed_table depth p without) → (line : List Placed)
+      → lead weighed_table (enter weighed_table depth) with_them line ≡ lead weighed_table (enter weighed_table depth) without line
   lead_same depth h [] = refl
   lead_same depth h (s ∷ ss) = by_view (reading_table.view s) (lead_same depth h ss)
     where
-      by_view : (v : View Part) → lead reading_table (enter reading_table depth) with_them ss ≡ lead reading_table (enter reading_table depth) without ss
-          → lead_at reading_table (enter reading_table depth) with_them v s ss (lead reading_table (enter reading_table depth) with_them ss)
-          ≡ lead_at reading_table (enter reading_table depth) without v s ss (lead reading_table (enter reading_table depth) without ss)
+      by_view : (v : View Part) → lead weighed_table (enter weighed_table depth) with_them ss ≡ lead weighed_table (enter weighed_table depth) without ss
+          → lead_at weighed_table (enter weighed_table depth) with_them v s ss (lead weighed_table (enter weighed_table depth) with_them ss)
+          ≡ lead_at weighed_table (enter weighed_table depth) without v s ss (lead weighed_table (enter weighed_table depth) without ss)
       by_view is_token e = refl
       by_view done e = ap (after s) e
       by_view (part p) e = rw (h p, e) refl
 
-  enter_same : (depth : ℕ) (p : Part) → enter reading_table depth p with_them ≡ enter reading_table depth p without
+  enter_same : (depth : ℕ) (p : Part) → enter weighed_table depth p with_them ≡ enter weighed_table depth p without
   enter_same zero p = refl
   enter_same (suc depth) p =
-      first_same (lead reading_table (enter reading_table depth) with_them) (lead reading_table (enter reading_table depth) without) (lead_same depth (enter_same depth)) (rows p)
+      first_same (lead weighed_table (enter weighed_table depth) with_them) (lead weighed_table (enter weighed_table depth) without) (lead_same depth (enter_same depth)) (rows p)
 
-  perform_same : (line : List Placed) (state : State) → perform reading_table line state with_them ≡ perform reading_table line state without
+  perform_same : (line : List Placed) (state : Weighed) → perform weighed_table line state with_them ≡ perform weighed_table line state without
   perform_same [] state = refl
-  perform_same (s ∷ ss) state = by_view (reading_table.view s) (perform_same ss (reading_table.does s state))
+  perform_same (s ∷ ss) state = by_view (reading_table.view s) (perform_same ss (weighed_table.does s state))
     where
-      by_view : (v : View Part) → perform reading_table ss (reading_table.does s state) with_them ≡ perform reading_table ss (reading_table.does s state) without
-          → perform_at reading_table v s ss state with_them (perform reading_table ss (reading_table.does s state) with_them)
-          ≡ perform_at reading_table v s ss state without (perform reading_table ss (reading_table.does s state) without)
+      by_view : (v : View Part) → perform weighed_table ss (weighed_table.does s state) with_them ≡ perform weighed_table ss (weighed_table.does s state) without
+          → perform_at weighed_table v s ss state with_them (perform weighed_table ss (weighed_table.does s state) with_them)
+          ≡ perform_at weighed_table v s ss state without (perform weighed_table ss (weighed_table.does s state) without)
       by_view is_token e = refl
       by_view done e = e
       by_view (part p) e = refl
 
-  feed_same : (depth : ℕ) (ss : List Placed) (state : State) → feed reading_table depth ss state with_them ≡ feed reading_table depth ss state without
-  feed_same depth ss state = rw (lead_same depth (enter_same depth) ss) (by_line (lead reading_table (enter reading_table depth) without ss))
+  feed_same : (depth : ℕ) (ss : List Placed) (state : Weighed) → feed weighed_table depth ss state with_them ≡ feed weighed_table depth ss state without
+  feed_same depth ss state = rw (lead_same depth (enter_same depth) ss) (by_line (lead weighed_table (enter weighed_table depth) without ss))
     where
-      by_line : (o : Option (List Placed)) → performed reading_table o state with_them ≡ performed reading_table o state without
+      by_line : (o : Option (List Placed)) → performed weighed_table o state with_them ≡ performed weighed_table o state without
       by_line None = refl
       by_line (Some line) = perform_same line state
 
@@ -62,29 +64,42 @@ module _ (texts : List (List ℕ)) (note : Bool) (lexeme : Lexeme) where
 abbrev end_with : List (List ℕ) → List Sign → State → State
 end_with waiting signs state = record state { waiting = state.waiting ++ trailing_from waiting signs }
 
-abbrev with_waiting : State → List (List ℕ) → State
-with_waiting state waiting = record state { waiting = state.waiting ++ waiting }
+-- these comments have come too
+abbrev with_waiting : Progress → List (List ℕ) → Progress
+with_waiting p texts =
+    record { stack = p.stack; weighed = record { state = record { values = p.weighed.state.values; waiting = p.weighed.state.waiting ++ texts }; masses = p.weighed.masses }; parentheses = p.parentheses }
 
-run_reads : (signs : List Sign) (waiting : List (List ℕ)) (ss : List Placed) (state : State)
-    → run reading_table deepest (end_with waiting signs) ss (arrived reading_table (end_with waiting signs) (tokens_from waiting signs) state) (tokens_from waiting signs)
-    ≡ read_signs ss (with_waiting state waiting) signs
-run_reads [] waiting ss state = refl
-run_reads (comment text ∷ signs) waiting ss state =
-    run_reads signs (waiting ++ text ∷ []) ss state ∙ ap (λ texts. read_signs ss record state { waiting = texts } signs) (sym (append_assoc state.waiting waiting (text ∷ [])))
-run_reads (token note lexeme ∷ signs) waiting ss state =
-    rw (feed_same waiting note lexeme deepest ss (with_waiting state waiting)) (by_fed (feed reading_table deepest ss (with_waiting state waiting) record { comments = []; note = note; lexeme = lexeme }) (run_reads signs []))
+waits_longer : (p : Progress) (a b : List (List ℕ)) → with_waiting p (a ++ b) ≡ with_waiting (with_waiting p a) b
+waits_longer p a b =
+    ap (λ texts. record { stack = p.stack; weighed = record { state = record { values = p.weighed.state.values; waiting = texts }; masses = p.weighed.masses }; parentheses = p.parentheses }) (sym (append_assoc p.weighed.state.waiting a b))
+
+waits_for_none : (p : Progress) → with_waiting p [] ≡ p
+waits_for_none p =
+    ap (λ texts. record { stack = p.stack; weighed = record { state = record { values = p.weighed.state.values; waiting = texts }; masses = p.weighed.masses }; parentheses = p.parentheses }) (append-nil p.weighed.state.waiting)
+
+token_same : (texts : List (List ℕ)) (note : Bool) (lexeme : Lexeme) (p : Progress) → with_token deepest p (with_them texts note lexeme) ≡ with_token deepest p (without texts note lexeme)
+token_same texts note lexeme p = rw (feed_same texts note lexeme deepest p.stack p.weighed) refl
+
+run_reads : (round : ℕ) (signs : List Sign) (waiting : List (List ℕ)) (p : Progress)
+    → run_weighed round (end_with waiting signs) (with_next (end_with waiting signs) (tokens_from waiting signs) p) (tokens_from waiting signs) ≡ read_signs round (with_waiting p waiting) signs
+run_reads round [] waiting p = by_line (hush weighed_table p.stack)
+  where
+    by_line : (o : Option (List Placed)) → ended_by o (with_waiting p waiting).weighed ≡ ended_at (option_map (λ line. apply weighed_table line (with_waiting p waiting).weighed) o)
+    by_line None = refl
+    by_line (Some line) = refl
+run_reads round (comment text ∷ signs) waiting p = run_reads round signs (waiting ++ text ∷ []) p ∙ ap (λ q. read_signs round q signs) (waits_longer p waiting (text ∷ []))
+run_reads round (token note lexeme ∷ signs) waiting p =
+    rw (token_same waiting note lexeme (with_waiting p waiting)) (by_fed (with_token deepest (with_waiting p waiting) record { comments = []; note = note; lexeme = lexeme }) (run_reads round signs []))
   where
     Goes : Type 0
-    Goes = (ss : List Placed) (state : State) → run reading_table deepest (end_with [] signs) ss (arrived reading_table (end_with [] signs) (tokens_from [] signs) state) (tokens_from [] signs)
-        ≡ read_signs ss (with_waiting state []) signs
+    Goes = (p : Progress) → run_weighed round (end_with [] signs) (with_next (end_with [] signs) (tokens_from [] signs) p) (tokens_from [] signs) ≡ read_signs round (with_waiting p []) signs
 
-    by_fed : (o : Option (List Placed × State)) → Goes
-        → going_on reading_table o (λ ss state. run reading_table deepest (end_with [] signs) ss (arrived reading_table (end_with [] signs) (tokens_from [] signs) state) (tokens_from [] signs))
-        ≡ going_on reading_table o (λ ss state. read_signs ss state signs)
+    by_fed : (o : Option Progress) → Goes
+        → within_limits round o (λ next. run_weighed round (end_with [] signs) (with_next (end_with [] signs) (tokens_from [] signs) next) (tokens_from [] signs))
+        ≡ within_limits round o (λ next. read_signs round next signs)
     by_fed None go = refl
-    by_fed (Some next) go = ap shifted (go next.0 next.1 ∙ ap (λ texts. read_signs next.0 record next.1 { waiting = texts } signs) (append-nil next.1.waiting))
+    by_fed (Some next) go = ap (λ o. if is_within round next then later o else limited 0) (go next ∙ ap (λ q. read_signs round q signs) (waits_for_none next))
 
 -- reading signs one by one is a run over the tokens
-pub read_is_run : (signs : List Sign) (ss : List Placed) (state : State)
-    → run reading_table deepest (end_of signs) ss (arrived reading_table (end_of signs) (tokens_of signs) state) (tokens_of signs) ≡ read_signs ss state signs
-read_is_run signs ss state = run_reads signs [] ss state ∙ ap (λ texts. read_signs ss record state { waiting = texts } signs) (append-nil state.waiting)
+pub read_is_run : (round : ℕ) (ss : List Placed) (signs : List Sign) → read_by_table round ss signs ≡ read_signs round (at_first ss) signs
+read_is_run round ss signs = run_reads round signs [] (at_first ss) ∙ ap (λ q. read_signs round q signs) (waits_for_none (at_first ss))

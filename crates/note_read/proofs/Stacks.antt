@@ -1,5 +1,6 @@
 -- The last members of a list, from the last one on.
-use Rattle.std.proofs.Common.{arith, ◌≡◌, ℕ, ◌-◌, ◌≤◌, List, ◌++◌, sym, ◌∙◌, ap, subst, reverse, take, drop, drop_of_length-le, length, inl, inr}
+use Rattle.std.proofs.Common.{arith, ◌≡◌, ℕ, zero, suc, ◌+◌, ◌-◌, ◌≤◌, List, [], ◌∷◌, ◌++◌, Some, sym, ◌∙◌, ap, subst, reverse, take, drop, drop_of_length-le, length, inl, inr}
+use Rattle.std.specs.Prelude.{slice_get}
 use Rattle.std.proofs.lemmas.Bool.{cases_lt}
 use Rattle.std.proofs.lemmas.List.{reverse-append, length-reverse, length-drop, take-append-drop, take_all}
 use Rattle.std.proofs.Math.Seq.{take-append_seam, drop-append_seam}
@@ -37,3 +38,14 @@ module _ {A : Type 0} (xs : List A) (n : ℕ) where
         let z : length xs - n ≡ 0 = omega (arith, h) in
         ap (λ m. reverse (take m xs)) z ∙ sym (drop_of_length-le (reverse xs) (subst (λ m. m ≤ n) (sym (length-reverse xs)) h))
   ]
+
+-- ---- what is left of a list from a place on
+
+from_here_suc : {A : Type 0} (xs : List A) (d : ℕ) (x : A) → slice_get xs d ≡ Some x → drop d xs ≡ x ∷ drop (suc d) xs
+from_here_suc [] zero x h = absurd cc
+from_here_suc [] (suc d) x h = absurd cc
+from_here_suc (y ∷ xs) zero x h = let z : y ≡ x = cc in ap (λ v. v ∷ xs) z
+from_here_suc (y ∷ xs) (suc d) x h = from_here_suc xs d x h
+
+pub from_here : {A : Type 0} (xs : List A) (d : ℕ) (x : A) → slice_get xs d ≡ Some x → drop d xs ≡ x ∷ drop (d + 1) xs
+from_here xs d x h = let e : suc d ≡ d + 1 = omega arith in from_here_suc xs d x h ∙ ap (λ n. x ∷ drop n xs) e

@@ -1,6 +1,7 @@
 pub mod Choosing
 pub mod Lexemes
 pub mod Machines
+pub mod Needs
 pub mod Rows
 pub mod Values
 pub mod Views

@@ -1,35 +1,55 @@
 -- The machine's way to a token.
 use Rattle.std.specs.Prelude.{◌≡◌, ◌≤◌, ◌-◌, ℕ, List, [], ◌∷◌, ◌++◌, option_map, Bool, true, false, Option, Some, None}
-use Rattle.note_read.specs.Values.{state_of}
+use Rattle.note_read.specs.Values.{weighed_of}
 use Rattle.note_read.specs.declared.machine.Machine.{Machine}
 use Rattle.note_read.specs.declared.machine.Next.{Next}
 use Rattle.note_read.specs.declared.machine.Next.TheVariants as next
+use Rattle.note_read.specs.declared.machine.Fed.{Fed}
+use Rattle.note_read.specs.declared.machine.Fed.TheVariants as fed_as
 use Rattle.reading_table.specs.Machine.{feed, hush, apply}
-use Rattle.reading_table.specs.Reading.{reading_table}
+use Rattle.reading_table.specs.Reading.{reading_table, deepest}
 use Rattle.reading_table.specs.Rows.{Placed}
-use Rattle.reading_table.specs.States.{Token, State}
+use Rattle.reading_table.specs.States.{Token}
 use Rattle.reading_table.specs.Tables.{token}
+use Rattle.reading_table.specs.Weighed.{Weighed, weighed_table, Progress, with_token, is_within}
 
--- what a token makes of a stack and a state, by parts within each other at most so deep
-abbrev pub fed : ℕ → Token → List Placed → State → Option (List Placed × State)
-fed depth t ss state = feed reading_table depth ss state t
+-- what a token makes of a stack and what has been read, by parts within each other at most so deep
+abbrev pub fed : ℕ → Token → List Placed → Weighed → Option (List Placed × Weighed)
+fed depth t ss w = feed weighed_table depth ss w t
 
 -- what the token makes of the machine before is what it makes of the one after
 abbrev pub Advances : ℕ → Token → Machine → Next → Machine → Type 0
-Advances depth t a (next.Token note s) b = (reading_table.view (note, s) ≡ token) × (fed depth t a.stack (state_of a.values) ≡ fed depth t ((note, s) ∷ b.stack) (state_of b.values))
-Advances depth t a next.Row b = (1 ≤ depth) × (fed depth t a.stack (state_of a.values) ≡ fed (depth - 1) t b.stack (state_of b.values))
-Advances depth t a next.Refused b = fed depth t a.stack (state_of a.values) ≡ None
+Advances depth t a (next.Token note s) b = (reading_table.view (note, s) ≡ token) × (fed depth t a.stack (weighed_of a.values) ≡ fed depth t ((note, s) ∷ b.stack) (weighed_of b.values))
+Advances depth t a next.Row b = (1 ≤ depth) × (fed depth t a.stack (weighed_of a.values) ≡ fed (depth - 1) t b.stack (weighed_of b.values))
+Advances depth t a next.Refused b = fed depth t a.stack (weighed_of a.values) ≡ None
 
 abbrev pub Feeds : ℕ → Token → Machine → Bool → Machine → Type 0
-Feeds depth t a true b = fed depth t a.stack (state_of a.values) ≡ Some (b.stack, state_of b.values)
-Feeds depth t a false b = fed depth t a.stack (state_of a.values) ≡ None
+Feeds depth t a true b = fed depth t a.stack (weighed_of a.values) ≡ Some (b.stack, weighed_of b.values)
+Feeds depth t a false b = fed depth t a.stack (weighed_of a.values) ≡ None
 
-abbrev pub nothing_read : State
-nothing_read = record { values = []; waiting = [] }
+-- where the machine stands
+abbrev pub progress_of : Machine → Progress
+progress_of m = record { stack = m.stack; weighed = weighed_of m.values; parentheses = m.parentheses }
 
-abbrev pub with_comment : List ℕ → State → State
-with_comment text state = record state { waiting = state.waiting ++ text ∷ [] }
+-- the same with so many parentheses open
+abbrev pub with_open : Machine → ℕ → Progress
+with_open m count = record { stack = m.stack; weighed = weighed_of m.values; parentheses = count }
 
--- the state where the text ends here, if the stack may be read as nothing
-abbrev pub ended : List Placed → State → Option State
-ended ss state = option_map (λ line. apply reading_table line state) (hush reading_table ss)
+-- the token is refused, or admitted within the limits or past them, and the machine is then where the token leads
+abbrev pub FeedsWithin : ℕ → Token → Machine → Fed → Machine → Type 0
+FeedsWithin round t a fed_as.Refused b = with_token deepest (progress_of a) t ≡ None
+FeedsWithin round t a fed_as.Limited b = (next : Progress) × (with_token deepest (progress_of a) t ≡ Some next) × (is_within round next ≡ false)
+FeedsWithin round t a fed_as.Admitted b = (with_token deepest (progress_of a) t ≡ Some (progress_of b)) × (is_within round (progress_of b) ≡ true)
+
+abbrev pub nothing_read : Weighed
+nothing_read = record { state = record { values = []; waiting = [] }; masses = [] }
+
+abbrev pub with_comment : List ℕ → Weighed → Weighed
+with_comment text w = record { state = record { values = w.state.values; waiting = w.state.waiting ++ text ∷ [] }; masses = w.masses }
+
+abbrev pub commented : List ℕ → Progress → Progress
+commented text p = record { stack = p.stack; weighed = with_comment text p.weighed; parentheses = p.parentheses }
+
+-- what has been read where the text ends here, if the stack may be read as nothing
+abbrev pub ended : List Placed → Weighed → Option Weighed
+ended ss w = option_map (λ line. apply weighed_table line w) (hush weighed_table ss)

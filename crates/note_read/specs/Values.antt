@@ -5,9 +5,14 @@ use Rattle.note_read.specs.declared.values.Values.{Values}
 use Rattle.reading_table.specs.declared.held.Held.{Held}
 use Rattle.reading_table.specs.declared.held.Held.TheVariants as held
 use Rattle.reading_table.specs.States.{State}
+use Rattle.reading_table.specs.Weighed.{Weighed}
 
 abbrev pub state_of : Values → State
 state_of v = record { values = v.values; waiting = v.waiting }
+
+-- the same with what limits see of it
+abbrev pub weighed_of : Values → Weighed
+weighed_of v = record { state = state_of v; masses = v.masses }
 
 -- the value put before the others, if there is one
 abbrev pub with_option : {A : Type 0} → Option A → List A → List A

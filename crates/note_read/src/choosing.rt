@@ -58,7 +58,7 @@ pub fn side_in(note: bool, rule: Rule) -> bool
 pub fn silence(rule: Rule) -> Option<&'static [Symbol]>
     ensures { (note : Bool) → option_map (λ line. placed (side_in note rule) line.now) result ≡ silence (side_in note rule, rule) }
 {
-    let (_, _, silence, _) = entry(rule)?;
+    let (_, _, silence, ..) = entry(rule)?;
     silence.first().copied()
 }
 

@@ -1,8 +1,9 @@
 // Tokens as they are read, and the sets that they are of.
-ghost use Rattle.std.specs.Prelude.{◌≡◌, ◌&&◌, map, bytes_eq, IfOk};
+ghost use Rattle.std.specs.Prelude.{◌≡◌, ◌&&◌, ◌<◌, ◌-◌, ◌^◌, map, bytes_eq, IfOk};
 ghost use Rattle.std.specs.Char.{to_ascii_lowercase};
 ghost use Rattle.std.specs.List.{list_any};
 ghost use denote.Enum.Bare.{sameb};
+ghost use Rattle.ada_tree.specs.Reading.{open_after};
 ghost use Rattle.ada_tree.specs.Rendering.{lexeme_text};
 ghost use Rattle.ada_tree.specs.Tables.{first_value};
 ghost use Rattle.ada_tree.specs.contracts.word.Mark as mark_row;
@@ -51,6 +52,18 @@ impl Lexeme {
             Lexeme::Number(own) => own.as_bytes() == text,
             Lexeme::Word(word) => word.text().as_bytes() == text,
             Lexeme::Mark(mark) => mark.text().as_bytes() == text,
+        }
+    }
+
+    /// How many parentheses are open after the token, where so many are before it.
+    pub fn open_after(&self, count: usize) -> usize
+        requires { count < 2 ^ 64 - 1 }
+        ensures { result ≡ open_after count (lexeme_of self.now) }
+    {
+        match self {
+            Lexeme::Mark(Mark::Open) => count + 1,
+            Lexeme::Mark(Mark::Close) => count.saturating_sub(1),
+            _ => count,
         }
     }
 

@@ -4,12 +4,13 @@
 mod choosing;
 mod lexeme;
 mod machine;
+mod masses;
 mod reading;
 mod sign;
 mod stack;
 mod values;
 
 pub use lexeme::{Lexeme, Token};
-pub use machine::Machine;
+pub use machine::{Fed, Machine};
 pub use reading::{Reading, read_text, read_tokens};
 pub use values::Values;

@@ -1,17 +1,15 @@
 // Reading from the left, one token at a time.
-ghost use Rattle.std.specs.Prelude.{◌≡◌, ◌++◌, option_map, IfOk, OnOk};
-ghost use Rattle.note_read.specs.Lexemes.{token_of};
-ghost use Rattle.note_read.specs.Machines.{Advances, Feeds, nothing_read, with_comment, ended};
-ghost use Rattle.note_read.specs.Values.{state_of};
-ghost use Rattle.reading_table.specs.Reading.{deepest};
+ghost use Rattle.std.specs.Prelude.{◌≡◌, ◌++◌, ◌≤◌, nat_le, option_map, IfOk, OnOk};
 ghost use Rattle.reading_table.specs.Rows.{placed};
 
 use crate::choosing::{View, row_for, seen, side_in, silence};
 use crate::lexeme::Token;
+use crate::masses::{highest, open_behind, open_within, rise};
 use crate::stack::Stack;
 use crate::values::Values;
+use ada_tree::{MOST_NESTED, MOST_NESTED_STEPS, MOST_OPEN};
 use base_kit::{Memory, Text};
-use reading_table::Symbol;
+use reading_table::{Height, Symbol};
 use std::alloc::Global;
 
 // Parts that begin a row, and those that begin their rows, and so on, stand within each other less deep.
@@ -23,6 +21,19 @@ pub struct Machine {
     /// The symbols, each with its side.
     stack: Stack<(bool, Symbol)>,
     values: Values,
+    /// How many are open.
+    parentheses: usize,
+    ghost few: { parentheses ≤ 64 },
+}
+
+/// What a token is to a reader.
+#[derive(Clone, Copy)]
+pub enum Fed {
+    /// No reading admits it.
+    Refused,
+    /// Readings admit it, but none within the limits.
+    Limited,
+    Admitted,
 }
 
 // What comes next on the way to a token.
@@ -48,19 +59,31 @@ fn push_row(stack: &mut Stack<(bool, Symbol)>, note: bool, row: &[Symbol]) -> Re
 }
 
 impl Machine {
+    ghost use Rattle.note_read.specs.Lexemes.{token_of};
+    ghost use Rattle.note_read.specs.Machines.{Advances, Feeds, FeedsWithin, nothing_read, commented, ended, progress_of, with_open};
+    ghost use Rattle.note_read.specs.Values.{weighed_of};
+    ghost use Rattle.reading_table.specs.Heights.{highest, least};
+    ghost use Rattle.reading_table.specs.Limits.{widest};
+    ghost use Rattle.reading_table.specs.Reading.{deepest};
+    ghost use Rattle.reading_table.specs.Weighed.{is_within};
+
     /// Nothing has been read, and these symbols are to be read, on this side.
     pub fn new(alloc: Global, note: bool, line: &[Symbol]) -> Result<Self, Memory>
-        ensures { IfOk result (λ made. (made.stack ≡ placed note line.now) × (state_of made.values ≡ nothing_read)) }
+        ensures { IfOk result (λ made. progress_of made ≡ record { stack = placed note line.now; weighed = nothing_read; parentheses = 0 }) }
     {
         let mut stack = Stack::new(alloc);
         push_row(&mut stack, note, line)?;
         let values = Values::new(alloc);
-        Ok(Machine { stack, values })
+        Ok(Machine {
+            stack,
+            values,
+            parentheses: 0,
+        })
     }
 
     /// A comment comes, and waits for its place.
     pub fn wait(&mut self, comment: Text) -> Result<(), Memory>
-        ensures { OnOk result ((self.new.stack ≡ self.old.stack) × (state_of self.new.values ≡ with_comment comment (state_of self.old.values))) }
+        ensures { OnOk result (progress_of self.new ≡ commented comment (progress_of self.old)) }
     {
         self.values.wait(comment)
     }
@@ -101,21 +124,75 @@ impl Machine {
         }
     }
 
-    /// Reads on with the token, if a text that goes on so can be read, and tells whether it did.
-    pub fn feed(&mut self, alloc: Global, token: Token) -> Result<bool, Memory>
-        ensures { IfOk result (λ admitted. Feeds deepest (token_of token) self.old admitted self.new) }
+    // How high what is read becomes at least.
+    #[tactic(auto, using(crate::proofs::Stacks::from_here))]
+    fn height_to_be(&self, alloc: Global) -> Result<Height, Memory>
+        ensures { IfOk result (λ height. height ≡ highest (least self.now.stack self.now.values.masses)) }
     {
-        self.feed_within(alloc, DEEPEST, token)
+        let mut masses = self.values.masses.copied(alloc)?;
+        for depth in 0..self.stack.len() {
+            let (_, symbol) = *self.stack.at(depth);
+            rise(&mut masses, symbol)?;
+        }
+        Ok(highest(masses))
+    }
+
+    // Tells whether few enough parentheses may be open at once while the rest is read, where so many are
+    // open now.
+    #[tactic(auto, using(crate::proofs::Stacks::from_here, crate::proofs::Wide::wide_on, crate::proofs::Wide::wide_out))]
+    fn may_open_few(&self, parentheses: usize) -> bool
+        requires { parentheses ≤ 65 }
+        ensures { result ≡ nat_le (widest parentheses self.now.stack) MOST_OPEN }
+    {
+        let mut count = parentheses;
+        for depth in 0..self.stack.len() {
+            let (_, symbol) = *self.stack.at(depth);
+            if open_within(count, symbol) > MOST_OPEN {
+                return false;
+            }
+            count = open_behind(count, symbol);
+        }
+        count <= MOST_OPEN
+    }
+
+    // Tells whether what is read may end within the limits.
+    fn is_within(&self, alloc: Global, round: usize, parentheses: usize) -> Result<bool, Memory>
+        requires { parentheses ≤ 65 }
+        ensures { IfOk result (λ within. within ≡ is_within round (with_open self.now parentheses)) }
+    {
+        let height = self.height_to_be(alloc)?;
+        Ok(
+            round.saturating_add(usize::from(height.nodes)) <= MOST_NESTED
+                && usize::from(height.steps) <= MOST_NESTED_STEPS
+                && self.may_open_few(parentheses),
+        )
+    }
+
+    /// Reads on with the token, if a text that goes on so can be read, where so many nodes that count are
+    /// round what is read. Behind a token that isn't admitted the machine is of no use.
+    pub fn feed(&mut self, alloc: Global, round: usize, token: Token) -> Result<Fed, Memory>
+        ensures { IfOk result (λ fed. FeedsWithin round (token_of token) self.old fed self.new) }
+    {
+        let parentheses = token.lexeme.open_after(self.parentheses);
+        if !self.feed_within(alloc, DEEPEST, token)? {
+            return Ok(Fed::Refused);
+        }
+        if !self.is_within(alloc, round, parentheses)? {
+            return Ok(Fed::Limited);
+        }
+        self.parentheses = parentheses;
+        Ok(Fed::Admitted)
     }
 
     /// What has been read where the text ends here, if it may.
     #[tactic(auto, using(crate::proofs::Endings::quiet_end, crate::proofs::Endings::token_end))]
     pub fn end(self, alloc: Global) -> Result<Option<Values>, Memory>
-        ensures { IfOk result (λ read. option_map state_of read ≡ ended self.stack (state_of self.values)) }
+        ensures { IfOk result (λ read. option_map weighed_of read ≡ ended self.stack (weighed_of self.values)) }
     {
         let Machine {
             mut stack,
             mut values,
+            parentheses: _,
         } = self;
         while let Some((_, symbol)) = stack.pop() {
             match seen(symbol) {

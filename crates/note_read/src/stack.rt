@@ -1,8 +1,9 @@
 // A stack.
-ghost use Rattle.std.specs.Prelude.{◌≡◌, List, [], ◌∷◌, ◌++◌, take, drop, reverse, slice_get, MatchOption, IfOk, OnOk};
+ghost use Rattle.std.specs.Prelude.{◌≡◌, ◌<◌, List, [], ◌∷◌, ◌++◌, take, drop, reverse, length, slice_get, Some, MatchOption, IfOk, OnOk};
 ghost use Rattle.std.specs.Option.{option_copied};
 
 use base_kit::Memory;
+use reading_table::Mass;
 use std::alloc::Global;
 use std::marker::Model;
 
@@ -32,10 +33,24 @@ impl<T> Stack<T> {
         }
     }
 
+    pub fn len(&self) -> usize
+        ensures { result ≡ length self.now }
+    {
+        self.members.len()
+    }
+
     pub fn pop(&mut self) -> Option<T>
         ensures { MatchOption result ((self.old ≡ []) × (self.new ≡ [])) (λ last. self.old ≡ last ∷ self.new) }
     {
         self.members.pop()
+    }
+
+    /// The member so many below the last one, of which there are more.
+    pub fn at(&self, depth: usize) -> &T
+        requires { depth < length self.now }
+        ensures { slice_get self.now depth ≡ Some result.now }
+    {
+        &self.members[self.members.len() - 1 - depth]
     }
 
     /// The member so many below the last one.
@@ -43,6 +58,17 @@ impl<T> Stack<T> {
         ensures { option_copied result ≡ slice_get self.now depth }
     {
         self.members.iter().rev().nth(depth)
+    }
+}
+
+impl Stack<Mass> {
+    /// The same members in a stack of their own.
+    pub fn copied(&self, alloc: Global) -> Result<Self, Memory>
+        ensures { IfOk result (λ same. same ≡ self.now) }
+    {
+        Ok(Stack {
+            members: self.members.as_slice().to_vec(alloc)?,
+        })
     }
 }
 

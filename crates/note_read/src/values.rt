@@ -2,42 +2,48 @@
 ghost use Rattle.std.specs.Prelude.{◌≡◌, Bool, [], ◌∷◌, ◌++◌, IsTrue, IfOk, OnOk};
 ghost use Rattle.note_read.specs.Lexemes.{lexeme_of, token_of};
 ghost use Rattle.note_read.specs.Machines.{nothing_read, with_comment};
-ghost use Rattle.note_read.specs.Values.{state_of, with_option, only_node};
+ghost use Rattle.note_read.specs.Values.{state_of, weighed_of, with_option, only_node};
 ghost use Rattle.reading_table.specs.declared.held.Held.TheVariants as held;
 ghost use Rattle.reading_table.specs.Machine.{apply};
-ghost use Rattle.reading_table.specs.Reading.{reading_table};
+ghost use Rattle.reading_table.specs.Heights.{rise};
+ghost use Rattle.reading_table.specs.Reading.{reading_table, view_in};
+ghost use Rattle.reading_table.specs.Tables.{token as token_view};
+ghost use Rattle.reading_table.specs.Weighed.{weighed_table};
 ghost use Rattle.reading_table.specs.Rows.{placed};
 ghost use Rattle.reading_table.specs.States.{text_in, nodes_in, text_held, text_below, noted, end_noted, built, joined, pasted, lowered, does, set_of, taken};
 
 use crate::lexeme::{Token, text_from};
+use crate::masses::rise;
 use crate::stack::Stack;
 use ada_tree::{Kids, Kind, Node};
 use base_kit::{Copied, Memory, Names, Text};
-use reading_table::{Held, Symbol, Tokens};
+use reading_table::{Held, Mass, Symbol, Tokens};
 use std::alloc::Global;
 use std::mem;
 
-/// The values, and the comments that no place has taken yet.
+/// The values, what limits see of them, and the comments that no place has taken yet.
 #[derive(Drop)]
 pub struct Values {
     pub values: Stack<Held>,
+    pub masses: Stack<Mass>,
     pub waiting: Names,
 }
 
 impl Values {
     /// There are none.
     pub fn new(alloc: Global) -> Self
-        ensures { state_of result ≡ nothing_read }
+        ensures { weighed_of result ≡ nothing_read }
     {
         Values {
             values: Stack::new(alloc),
+            masses: Stack::new(alloc),
             waiting: Names::new(alloc),
         }
     }
 
     /// A comment comes, and waits for its place.
     pub fn wait(&mut self, comment: Text) -> Result<(), Memory>
-        ensures { OnOk result (state_of self.new ≡ with_comment comment (state_of self.old)) }
+        ensures { OnOk result (weighed_of self.new ≡ with_comment comment (weighed_of self.old)) }
     {
         self.waiting.push(comment)
     }
@@ -52,9 +58,10 @@ impl Values {
         }
     }
 
-    /// Does what the symbol says; a symbol of a token or a part says nothing.
-    pub fn act(&mut self, alloc: Global, symbol: Symbol) -> Result<(), Memory>
-        ensures { OnOk result (state_of self.new ≡ does symbol (state_of self.old)) }
+    // Does what the symbol says, but for what limits see.
+    fn do_to_values(&mut self, alloc: Global, symbol: Symbol) -> Result<(), Memory>
+        ensures values { OnOk result (state_of self.new ≡ does symbol (state_of self.old)) }
+        ensures masses { OnOk result (self.new.masses ≡ self.old.masses) }
     {
         let values = &mut self.values;
         match symbol {
@@ -77,9 +84,17 @@ impl Values {
         }
     }
 
+    /// Does what the symbol says; a symbol of a token or a part says nothing.
+    pub fn act(&mut self, alloc: Global, symbol: Symbol) -> Result<(), Memory>
+        ensures { OnOk result (weighed_of self.new ≡ record { state = does symbol (state_of self.old); masses = rise symbol self.old.masses }) }
+    {
+        self.do_to_values(alloc, symbol)?;
+        rise(&mut self.masses, symbol)
+    }
+
     /// Does what the symbols say, in order.
     pub fn act_all(&mut self, alloc: Global, symbols: &[Symbol]) -> Result<(), Memory>
-        ensures { (note : Bool) → OnOk result (state_of self.new ≡ apply reading_table (placed note symbols.now) (state_of self.old)) }
+        ensures { (note : Bool) → OnOk result (weighed_of self.new ≡ apply weighed_table (placed note symbols.now) (weighed_of self.old)) }
     {
         for symbol in symbols {
             self.act(alloc, *symbol)?;
@@ -95,8 +110,9 @@ impl Values {
         symbol: Symbol,
         token: Token,
     ) -> Result<bool, Memory>
+        requires { view_in note symbol ≡ token_view }
         ensures fits { IfOk result (λ fits. fits ≡ reading_table.fits (note, symbol) (state_of self.old) (token_of token)) }
-        ensures taken { IfOk result (λ fits. IsTrue fits → state_of self.new ≡ taken symbol (state_of self.old) (lexeme_of token.lexeme)) }
+        ensures taken { IfOk result (λ fits. IsTrue fits → weighed_of self.new ≡ weighed_table.taken (note, symbol) (weighed_of self.old) (token_of token)) }
     {
         if !token.may_be(note, set_of(symbol)) {
             return Ok(false);
@@ -110,6 +126,7 @@ impl Values {
             Symbol::Keep(_) => {
                 let text = token.lexeme.into_text(alloc)?;
                 self.values.push(Held::Text(text))?;
+                self.masses.push(Mass::Text)?;
                 Ok(true)
             }
             _ => Ok(true),

@@ -1,5 +1,7 @@
 pub mod Events
 pub mod Faults
+pub mod Heights
+pub mod Limits
 pub mod Machine
 pub mod Reading
 pub mod Rows
@@ -9,3 +11,4 @@ pub mod Starts
 pub mod States
 pub mod Tables
 pub mod TokenSets
+pub mod Weighed

@@ -74,12 +74,13 @@ macro_rules! row {
 
 #[macro_export]
 macro_rules! rules {
-    ($($rule:ident $side:ident $(or($($quiet:ident $(($($word:tt)*))?)*))? { $($([$tag:ident])? $($symbol:ident $(($($argument:tt)*))?)*)|* })*) => {
+    ($($rule:ident $side:ident $need:ident $(or($($quiet:ident $(($($word:tt)*))?)*))? { $($([$tag:ident])? $($symbol:ident $(($($argument:tt)*))?)*)|* })*) => {
         [$((
             Rule::$rule,
             Side::$side,
             &[$(&[$($crate::symbol!($quiet $($($word)*)?)),*])?],
             &[$($crate::row!($([$tag])? $($symbol $(($($argument)*))?)*)),*],
+            $need,
         )),*]
     };
 }

@@ -17,6 +17,7 @@ pub mod statements;
 pub mod traits;
 pub mod units;
 
+use crate::need::Need;
 use crate::rule::Rule;
 use crate::symbol::Symbol;
 use ada_tree::Side;
@@ -25,8 +26,14 @@ use ada_tree::Side;
 pub type Row = (Side, &'static [Symbol]);
 
 /// An entry of the table: a rule; the side that it is for; what is done where it is read as nothing, if
-/// it may be; and its rows.
-pub type Entry = (Rule, Side, &'static [&'static [Symbol]], &'static [Row]);
+/// it may be; its rows; and what it finds, leaves and makes at least.
+pub type Entry = (
+    Rule,
+    Side,
+    &'static [&'static [Symbol]],
+    &'static [Row],
+    Need,
+);
 
 /// The entry of a rule. There is always one.
 pub fn entry(rule: Rule) -> Option<&'static Entry>

@@ -2,67 +2,68 @@
 ghost use Rattle.std.specs.Prelude.{◌≡◌, map};
 ghost use Rattle.reading_table.specs.Rows.{entry_now};
 
+use crate::need::{ON, ROUND, ROUND_TWO, ROUND_TWO_OPENS, TWO};
 use crate::rows::Entry;
 use crate::rule::Rule;
 use crate::symbol::{Symbol, Tokens};
 use ada_tree::{Kind, Mark, Side, Word};
 
 pub static NODES: [Entry; 15] = crate::rules! {
-    OfBinary Both { part(SignedFirst) part(MustSum) | part(Factor) part(MustProduct) }
-    MustProduct Both {
+    OfBinary Both TWO { part(SignedFirst) part(MustSum) | part(Factor) part(MustProduct) }
+    MustProduct Both ROUND_TWO {
         keep(Multiplying) part(Factor) build(Binary 3) part(ProductTail) part(SumTail)
             part(BinaryEnd)
         | part(MustSum)
     }
-    MustSum Both {
+    MustSum Both ROUND_TWO {
         keep(Adding) part(Signed) build(Binary 3) part(SumTail) part(BinaryEnd)
         | part(MustRel)
     }
-    MustRel Both {
+    MustRel Both ROUND_TWO {
         keep(Relational) part(Sum) build(Binary 3) part(BinaryLog)
         | [Ada] keep(Word In) part(Dis) build(Member 3) part(LogRow)
         | [Ada] keep(Word Not) keep(Word In) paste(b' ') part(Dis) build(Member 3) part(LogRow)
         | part(MustLog)
     }
-    MustLog Both {
+    MustLog Both ROUND_TWO {
         [Ada] part(LogRow)
         | [Note] part(LogRow) part(ImpliesTail) part(IffTail)
         | [Note] keep(Word Implies) part(Implication) build(Binary 3) part(IffTail)
         | [Note] keep(Word Iff) part(Implication) build(Binary 3)
     }
-    BinaryEnd Both or() {
+    BinaryEnd Both ON or() {
         keep(Relational) part(Sum) build(Binary 3) part(BinaryLog)
         | [Ada] keep(Word In) part(Dis) build(Member 3) part(LogRow)
         | [Ada] keep(Word Not) keep(Word In) paste(b' ') part(Dis) build(Member 3) part(LogRow)
         | part(BinaryLog)
     }
-    BinaryLog Both or() {
+    BinaryLog Both ON or() {
         [Ada] part(LogTail)
         | [Note] part(LogTail) part(ImpliesTail) part(IffTail)
     }
-    OfUnary Both { part(SignedFirst) | part(Absolute) }
-    MemberTail Ada {
+    OfUnary Both TWO { part(SignedFirst) | part(Absolute) }
+    MemberTail Ada ROUND_TWO {
         keep(Word In) part(Dis) build(Member 3)
         | keep(Word Not) keep(Word In) paste(b' ') part(Dis) build(Member 3)
     }
-    ToSelect Both {
+    ToSelect Both ROUND {
         take(Mark Dot) part(Text) build(Select 2) part(WasSelect)
         | take(Mark Tick) part(Text) build(Attr 2) part(ToSelect)
         | take(Mark Open) part(Args) take(Mark Close) build(Apply 2) part(ToSelect)
     }
-    WasSelect Both or() { part(ToSelect) }
-    ToAttr Both {
+    WasSelect Both ON or() { part(ToSelect) }
+    ToAttr Both ROUND {
         take(Mark Dot) part(Text) build(Select 2) part(ToAttr)
         | take(Mark Tick) part(Text) build(Attr 2) part(WasAttr)
         | take(Mark Open) part(Args) take(Mark Close) build(Apply 2) part(ToAttr)
     }
-    WasAttr Both or() { part(ToAttr) }
-    ToApply Both {
+    WasAttr Both ON or() { part(ToAttr) }
+    ToApply Both ROUND_TWO_OPENS {
         take(Mark Dot) part(Text) build(Select 2) part(ToApply)
         | take(Mark Tick) part(Text) build(Attr 2) part(ToApply)
         | take(Mark Open) part(Args) take(Mark Close) build(Apply 2) part(WasApply)
     }
-    WasApply Both or() { part(ToApply) }
+    WasApply Both ON or() { part(ToApply) }
 };
 
 /// The entries of these rules, in order.
