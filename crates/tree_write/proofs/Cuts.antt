@@ -12,7 +12,7 @@ use Rattle.ada_tree.specs.Items.{Item}
 use Rattle.ada_tree.specs.Texts.{symbol_items, name_items, dotted, label_item, key_items, is_dot}
 use Rattle.tree_write.specs.Ink.{Ink, after}
 use Rattle.tree_write.specs.Symbols.{symbol_part, point_items}
-use Rattle.tree_write.proofs.Inks.{after-append}
+use Rattle.tree_write.proofs.Inks.{after_append}
 
 record IsFound (p : ℕ → Bool) (xs : List ℕ) (end : ℕ) : Type 0 where
   within : position_or_len p xs < length xs
@@ -55,7 +55,7 @@ none_found p xs e = list_any_none p xs (no_such p xs (nothing_found p xs e))
 
 pub symbols_go_on : (text part more : List ℕ) (ink : Ink) → slice_split (λ b. b == 32) text ≡ part ∷ slice_split (λ b. b == 32) more
     → after (symbol_items text) ink ≡ after (symbol_items more) (after (symbol_part part) ink)
-symbols_go_on text part more ink e = ap (λ parts. after (flat_map symbol_part parts) ink) e ∙ after-append (symbol_part part) (symbol_items more) ink
+symbols_go_on text part more ink e = ap (λ parts. after (flat_map symbol_part parts) ink) e ∙ after_append (symbol_part part) (symbol_items more) ink
 
 pub symbols_end : (text : List ℕ) → slice_split (λ b. b == 32) text ≡ text ∷ [] → symbol_items text ≡ symbol_part text
 symbols_end text e = ap (λ parts. flat_map symbol_part parts) e ∙ append-nil (symbol_part text)

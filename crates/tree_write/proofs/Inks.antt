@@ -7,9 +7,12 @@ use Rattle.ada_tree.specs.Items.{Item, put, put_small, glue, line_break, indent,
 use Rattle.ada_tree.specs.Rendering.{blanks, line_end, render}
 use Rattle.tree_write.specs.Ink.{Ink, with_bytes, drawn, after}
 
-pub after-append : (front back : List Item) (ink : Ink) → after (front ++ back) ink ≡ after back (after front ink)
-after-append [] back ink = refl
-after-append (item ∷ front) back ink = after-append front back (drawn item ink)
+pub after_append : (front back : List Item) (ink : Ink) → after (front ++ back) ink ≡ after back (after front ink)
+after_append [] back ink = refl
+after_append (item ∷ front) back ink = after_append front back (drawn item ink)
+
+pub items_written : (items rest : List Item) (before later : Ink) → later ≡ after items before → after rest later ≡ after (items ++ rest) before
+items_written items rest before later e = ap (after rest) e ∙ sym (after_append items rest before)
 
 one : (item : Item) (items : List Item) (ink : Ink) → (drawn item ink).bytes ++ render (drawn item ink).pen items ≡ ink.bytes ++ render ink.pen (item ∷ items)
 one (put lexeme) items ink = simp append_assoc

@@ -1,11 +1,13 @@
 // One task after another.
-ghost use Rattle.std.specs.Prelude.{◌≡◌, ◌+◌, ◌<◌, ◌∷◌, [], ◌++◌, length, false, OnOk};
+ghost use Rattle.std.specs.Prelude.{◌≡◌, ◌+◌, ◌<◌, ◌≤◌, ◌∷◌, [], ◌++◌, length, false, OnOk};
 ghost use Rattle.ada_tree.specs.declared.grammar.Shape.TheVariants.{One};
 ghost use Rattle.ada_tree.specs.declared.grammar.Piece.TheVariants.{Kid, Arguments};
 ghost use Rattle.ada_tree.specs.Nodes.{text_of, notes_of};
-ghost use Rattle.ada_tree.specs.Canonical.{written_line, members, marked, arguments, is_left_out, are_bare};
+ghost use Rattle.ada_tree.specs.Items.{line_break};
+ghost use Rattle.ada_tree.specs.Rules.{arguments_of};
+ghost use Rattle.ada_tree.specs.Canonical.{written_line, members, marked, arguments, comment_lines, is_left_out, are_bare};
 ghost use Rattle.tree_write.specs.Ink.{ink_of, after};
-ghost use Rattle.tree_write.specs.Tasks.{as_written, all_written, one_argument, piece_items, part_items, task_items, work_items, finished, cost_of_all, task_cost, work_cost};
+ghost use Rattle.tree_write.specs.Tasks.{as_written, all_written, one_argument, piece_items, part_items, task_items, work_items, finished, node_cost, cost_of_all, task_cost, work_cost};
 
 use crate::own::write_own;
 use crate::page::Page;
@@ -14,7 +16,33 @@ use ada_tree::{Argument, Choice, Kind, Mark, Node, Piece, Shape, Word, arguments
 use base_kit::Memory;
 use std::alloc::Global;
 
+// The other members of a list come on the next lines.
+fn push_next<'a>(work: &mut Vec<Task<'a>>, place: Choice, nodes: &'a [Node]) -> Result<(), Memory>
+    ensures items { OnOk result (work_items work.new.items ≡ line_break ∷ (members place (all_written nodes.now) ++ work_items work.old.items)) }
+    ensures cost { OnOk result (work_cost work.new.items ≡ work_cost work.old.items + (2 + cost_of_all nodes.now)) }
+{
+    work.push(Task::Members(place, nodes))?;
+    work.push(Task::Break)?;
+    Ok(())
+}
+
+// A member of a list begins, with its comments before it.
+#[tactic(auto, using(crate::proofs::Inks::items_written))]
+fn open_member<'a>(
+    page: &mut Page,
+    work: &mut Vec<Task<'a>>,
+    place: Choice,
+    node: &'a Node,
+) -> Result<(), Memory>
+    ensures items { OnOk result (finished page.new work.new.items ≡ after (comment_lines (as_written node.now).notes ++ ((as_written node.now).at (One place) ++ work_items work.old.items)) (ink_of page.old)) }
+    ensures cost { OnOk result (work_cost work.new.items + 16 ≤ work_cost work.old.items + node_cost node.now) }
+{
+    page.comments(node.notes.as_slice())?;
+    open_node(page, work, place, node)
+}
+
 // The next member of a list, on a line with its comments before it.
+#[tactic(auto, using(crate::proofs::Works::regroup))]
 fn step_members<'a>(
     page: &mut Page,
     work: &mut Vec<Task<'a>>,
@@ -27,10 +55,8 @@ fn step_members<'a>(
     let Some((node, nodes)) = nodes.split_first() else {
         return Ok(());
     };
-    page.comments(node.notes.as_slice())?;
-    work.push(Task::Members(place, nodes))?;
-    work.push(Task::Break)?;
-    open_node(page, work, place, node)
+    push_next(work, place, nodes)?;
+    open_member(page, work, place, node)
 }
 
 // The next member of a list, after the mark.
@@ -151,7 +177,18 @@ fn is_left_out(kids: &[Node]) -> bool
     }
 }
 
+// Whether a node has no members.
+fn is_bare(node: &Node) -> bool
+    ensures { result ≡ (as_written node.now).is_bare }
+{
+    match node.kids.as_slice().first() {
+        None => true,
+        Some(_) => false,
+    }
+}
+
 // Whether the next so many kids are there, and have no members.
+#[tactic(auto, using(crate::proofs::Works::bare_more, crate::proofs::Works::bare_nowhere))]
 fn are_bare(count: usize, kids: &[Node]) -> bool
     ensures { result ≡ are_bare count (all_written kids.now) }
 {
@@ -160,7 +197,7 @@ fn are_bare(count: usize, kids: &[Node]) -> bool
     }
     match kids.split_first() {
         None => false,
-        Some((kid, kids)) => kid.kids.is_empty() && are_bare(count - 1, kids),
+        Some((kid, kids)) => is_bare(kid) && are_bare(count - 1, kids),
     }
 }
 
@@ -183,7 +220,29 @@ fn step_kid<'a>(
     open_kid(page, work, shape, kid)
 }
 
+fn push_list<'a>(
+    work: &mut Vec<Task<'a>>,
+    line: &'static [Argument],
+    nodes: &'a [Node],
+) -> Result<(), Memory>
+    ensures items { OnOk result (work_items work.new.items ≡ arguments line.now (all_written nodes.now) ++ work_items work.old.items) }
+    ensures cost { OnOk result (work_cost work.new.items ≡ work_cost work.old.items + (1 + cost_of_all nodes.now)) }
+{
+    work.push(Task::Arguments(line, nodes))?;
+    Ok(())
+}
+
+// The arguments of a proof step by this rule.
+#[tactic(auto, using(crate::proofs::Works::node_costs))]
+fn push_rule<'a>(work: &mut Vec<Task<'a>>, rule: &[u8], list: &'a Node) -> Result<(), Memory>
+    ensures items { OnOk result (work_items work.new.items ≡ (as_written list.now).as_arguments (arguments_of rule.now) ++ work_items work.old.items) }
+    ensures cost { OnOk result (work_cost work.new.items < work_cost work.old.items + node_cost list.now) }
+{
+    push_list(work, arguments(rule), list.kids.as_slice())
+}
+
 // The arguments of a proof step begin.
+#[tactic(auto, using(crate::proofs::Works::regroup))]
 fn push_arguments<'a>(
     work: &mut Vec<Task<'a>>,
     pieces: &'static [Piece],
@@ -197,12 +256,11 @@ fn push_arguments<'a>(
         return Ok(());
     };
     push_rest(work, false, pieces, node, kids)?;
-    let line = arguments(node.text.as_bytes());
-    work.push(Task::Arguments(line, list.kids.as_slice()))?;
-    Ok(())
+    push_rule(work, node.text.as_bytes(), list)
 }
 
 // A part of a line begins, which has so many kids and may be left out.
+#[tactic(auto, using(crate::proofs::Works::dropped_costs))]
 fn push_part<'a>(
     work: &mut Vec<Task<'a>>,
     is_out: bool,
@@ -218,6 +276,23 @@ fn push_part<'a>(
         let left = kids.split_at(count.min(kids.len())).1;
         return push_rest(work, true, pieces, node, left);
     }
+    push_rest(work, false, pieces, node, kids)
+}
+
+// A piece that is written by itself, and then the others.
+#[tactic(auto, using(crate::proofs::Inks::items_written, crate::proofs::Works::regroup))]
+fn step_simple<'a>(
+    page: &mut Page,
+    work: &mut Vec<Task<'a>>,
+    piece: Piece,
+    pieces: &'static [Piece],
+    node: &'a Node,
+    kids: &'a [Node],
+) -> Result<(), Memory>
+    ensures items { OnOk result (finished page.new work.new.items ≡ after (piece_items piece (text_of node.now) ++ (written_line false pieces.now (text_of node.now) (notes_of node.now) (all_written kids.now) ++ work_items work.old.items)) (ink_of page.old)) }
+    ensures cost { OnOk result (work_cost work.new.items < work_cost work.old.items + (4 + length pieces.now + cost_of_all kids.now)) }
+{
+    write_piece(page, piece, node.text.as_bytes())?;
     push_rest(work, false, pieces, node, kids)
 }
 
@@ -242,18 +317,15 @@ fn step_piece<'a>(
             let count = count as usize;
             push_part(work, are_bare(count, kids), count, pieces, node, kids)
         }
-        Piece::End
-        | Piece::Word(_)
-        | Piece::Mark(_)
-        | Piece::Own(_)
-        | Piece::Indent
-        | Piece::Outdent
-        | Piece::Glue
-        | Piece::NoteOn
-        | Piece::NoteOff => {
-            write_piece(page, piece, node.text.as_bytes())?;
-            push_rest(work, false, pieces, node, kids)
-        }
+        Piece::End => step_simple(page, work, piece, pieces, node, kids),
+        Piece::Word(_) => step_simple(page, work, piece, pieces, node, kids),
+        Piece::Mark(_) => step_simple(page, work, piece, pieces, node, kids),
+        Piece::Own(_) => step_simple(page, work, piece, pieces, node, kids),
+        Piece::Indent => step_simple(page, work, piece, pieces, node, kids),
+        Piece::Outdent => step_simple(page, work, piece, pieces, node, kids),
+        Piece::Glue => step_simple(page, work, piece, pieces, node, kids),
+        Piece::NoteOn => step_simple(page, work, piece, pieces, node, kids),
+        Piece::NoteOff => step_simple(page, work, piece, pieces, node, kids),
     }
 }
 
@@ -279,9 +351,10 @@ fn step_line<'a>(
     step_piece(page, work, *piece, pieces, node, kids)
 }
 
+#[tactic(auto, using(crate::proofs::Inks::items_written))]
 fn step<'a>(page: &mut Page, work: &mut Vec<Task<'a>>, task: Task<'a>) -> Result<(), Memory>
-    ensures items { OnOk result (finished page.new work.new.items ≡ after (task_items task ++ work_items work.old.items) (ink_of page.old)) }
-    ensures cost { OnOk result (work_cost work.new.items < work_cost work.old.items + task_cost task) }
+    ensures items { OnOk result (finished page.new work.new.items ≡ after (task_items task.entry ++ work_items work.old.items) (ink_of page.old)) }
+    ensures cost { OnOk result (work_cost work.new.items < work_cost work.old.items + task_cost task.entry) }
 {
     match task {
         Task::Line(skip, pieces, node, kids) => step_line(page, work, skip, pieces, node, kids),
@@ -290,7 +363,10 @@ fn step<'a>(page: &mut Page, work: &mut Vec<Task<'a>>, task: Task<'a>) -> Result
         Task::Arguments(line, nodes) => step_arguments(page, work, line, nodes),
         Task::Close => page.mark(Mark::Close),
         Task::Break => page.line_break(),
-        Task::Comments(notes) => page.comments(notes),
+        Task::Comments(notes) => {
+            page.comments(notes)?;
+            Ok(())
+        }
     }
 }
 
