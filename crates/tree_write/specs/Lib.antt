@@ -1,3 +1,4 @@
 pub mod Ink
 pub mod Symbols
 pub mod Tasks
+pub mod Reread
