@@ -1,5 +1,5 @@
 -- A text that is cut at the first such byte.
-use Rattle.std.proofs.Common.{◌≡◌, ℕ, ◌+◌, ◌<◌, ◌≤◌, List, [], ◌∷◌, ◌++◌, length, Bool, true, false, cond, Option, Some, None, refl, sym, ◌∙◌, ap, take, drop, take_all, length-drop, ◌-◌, arith}
+use Rattle.std.proofs.Common.{◌≡◌, ℕ, ◌+◌, ◌<◌, ◌≤◌, List, [], ◌∷◌, length, Bool, true, false, cond, Option, Some, None, refl, sym, ◌∙◌, ap, take, drop, take_all, length-drop, ◌-◌, arith}
 use Rattle.std.specs.Prelude.{position, nat_lt, count_by, ◌==◌, is_some, IfSome}
 use Rattle.std.specs.Borrow.{Bor}
 use Rattle.std.specs.List.{All, list_any, position_or_len, slice_split, flat_map}
@@ -8,8 +8,7 @@ use Rattle.std.proofs.lemmas.List.Folds.{list_any_none, list_any_at}
 use Rattle.std.proofs.lemmas.List.Sums.{fails_before_first, passes_at_first}
 use Rattle.std.proofs.lemmas.List.Splits.{slice_split_first, slice_split_none, length-slice_split}
 use Rattle.std.proofs.lemmas.List.{append-nil}
-use Rattle.ada_tree.specs.Items.{Item}
-use Rattle.ada_tree.specs.Texts.{symbol_items, name_items, dotted, label_item, key_items, is_dot}
+use Rattle.ada_tree.specs.Texts.{symbol_items, name_items, dotted, key_items, is_dot}
 use Rattle.tree_write.specs.Ink.{Ink, after}
 use Rattle.tree_write.specs.Symbols.{symbol_part, point_items}
 use Rattle.tree_write.proofs.Inks.{after_append}

@@ -1,5 +1,5 @@
 -- Tasks that are pushed, and what they cost.
-use Rattle.std.proofs.Common.{◌≡◌, ℕ, zero, suc, ◌+◌, ◌-◌, ◌≤◌, ◌<◌, ◌&&◌, List, [], ◌∷◌, ◌++◌, length, Bool, true, false, not, refl, sym, ◌∙◌, ap, arith, append_assoc, map, drop}
+use Rattle.std.proofs.Common.{◌≡◌, ℕ, zero, suc, ◌+◌, ◌-◌, ◌≤◌, ◌<◌, ◌&&◌, List, [], ◌∷◌, ◌++◌, length, Bool, true, false, refl, sym, ◌∙◌, ap, arith, append_assoc, drop}
 use Rattle.std.specs.Prelude.{nat_le}
 use Rattle.std.proofs.lemmas.Bool.{leb-true}
 use Rattle.std.proofs.lemmas.List.Sums.{fold-append}
@@ -8,7 +8,7 @@ use Rattle.ada_tree.specs.declared.kind.Kind.TheVariants as kind
 use Rattle.ada_tree.specs.declared.grammar.Choice.{Choice}
 use Rattle.ada_tree.specs.declared.grammar.Choice.TheVariants as choice
 use Rattle.ada_tree.specs.declared.grammar.Piece.{Piece}
-use Rattle.ada_tree.specs.declared.node.Node.{Node, Node-F, fold-Node, fold_out-Node}
+use Rattle.ada_tree.specs.declared.node.Node.{Node, Node-F, fold_out-Node}
 use Rattle.ada_tree.specs.Items.{Item}
 use Rattle.ada_tree.specs.Nodes.{kind_of, text_of, notes_of, kids_of}
 use Rattle.ada_tree.specs.Lines.{line}
@@ -16,7 +16,7 @@ use Rattle.ada_tree.specs.Canonical.{Written, written, are_bare, arguments}
 use Rattle.ada_tree.specs.declared.grammar.Argument.{Argument}
 use Rattle.ada_tree.proofs.Found.{line_holds}
 use Rattle.tree_write.specs.declared.work.Task.{Task}
-use Rattle.tree_write.specs.Tasks.{as_written, all_written, task_items, work_items, node_cost, cost_of_all, node_steps, total, line_cost, task_cost, work_cost}
+use Rattle.tree_write.specs.Tasks.{as_written, all_written, task_items, work_items, node_cost, cost_of_all, node_steps, total, line_cost}
 
 pub work_items-push : (tasks : List Task) (task : Task) → work_items (tasks ++ task ∷ []) ≡ task_items task ++ work_items tasks
 work_items-push tasks task = fold-append (λ rest task. task_items task ++ rest) [] tasks (task ∷ [])

@@ -1,5 +1,5 @@
 -- What is still to be written.
-use Rattle.std.specs.Prelude.{ℕ, ◌+◌, ◌*◌, List, [], ◌∷◌, ◌++◌, length, map, sum_by, fold, drop, Bool, true, false, if◌then◌else◌}
+use Rattle.std.specs.Prelude.{ℕ, ◌+◌, List, [], ◌∷◌, ◌++◌, length, map, sum_by, fold, drop, Bool, true, false, if◌then◌else◌}
 use Rattle.ada_tree.specs.declared.word.Mark.TheVariants as mark
 use Rattle.ada_tree.specs.declared.grammar.Choice.{Choice}
 use Rattle.ada_tree.specs.declared.grammar.Shape.TheVariants.{One}

@@ -371,12 +371,7 @@ fn step<'a>(page: &mut Page, work: &mut Vec<Task<'a>>, task: Task<'a>) -> Result
 }
 
 /// Writes a node as it stands at a place. The depth of the tree takes no stack.
-pub fn write_node(
-    alloc: Global,
-    page: &mut Page,
-    place: Choice,
-    node: &Node,
-) -> Result<(), Memory>
+pub fn write_node(alloc: Global, page: &mut Page, place: Choice, node: &Node) -> Result<(), Memory>
     ensures { OnOk result (ink_of page.new ≡ after ((as_written node.now).at (One place)) (ink_of page.old)) }
 {
     let mut work = Vec::new(alloc);

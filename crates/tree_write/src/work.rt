@@ -13,7 +13,9 @@ ghost use Rattle.tree_write.specs.Ink.{ink_of, after, drawn};
 ghost use Rattle.tree_write.specs.Tasks.{as_written, all_written, line_items, task_items, work_items, finished, node_cost, cost_of_all, line_cost, work_cost};
 
 use crate::page::Page;
-use ada_tree::{Argument, Choice, Kind, Level, Mark, Node, OperatorEntry, Piece, Shape, Word, line};
+use ada_tree::{
+    Argument, Choice, Kind, Level, Mark, Node, OperatorEntry, Piece, Shape, Word, line,
+};
 use base_kit::{Memory, Text};
 
 /// A part of a text that is still to be written.
@@ -168,7 +170,12 @@ fn open_for_all<'a>(
 
 // The members of a list, and the comments at its end.
 #[tactic(auto, using(crate::proofs::Works::regroup))]
-pub fn push_members<'a>(work: &mut Vec<Task<'a>>, place: Choice, list: &'a Node, kids: &'a [Node]) -> Result<(), Memory>
+pub fn push_members<'a>(
+    work: &mut Vec<Task<'a>>,
+    place: Choice,
+    list: &'a Node,
+    kids: &'a [Node],
+) -> Result<(), Memory>
     ensures items { OnOk result (work_items work.new.items ≡ (members place (all_written kids.now) ++ comment_lines (notes_of list.now)) ++ work_items work.old.items) }
     ensures cost { OnOk result (work_cost work.new.items ≤ work_cost work.old.items + (2 + cost_of_all kids.now)) }
 {

@@ -1,4 +1,4 @@
-use Rattle.std.proofs.Common.{◌≡◌, ◌++◌, ap, sym, ◌∙◌, subst, List}
+use Rattle.std.proofs.Common.{◌≡◌, ◌++◌, ap, ◌∙◌, subst, List}
 use Rattle.std.specs.Prelude.{OnOk}
 use Rattle.ada_tree.specs.Items.{Item}
 use Rattle.ada_tree.specs.Canonical.{arguments}

@@ -1,5 +1,3 @@
-use Rattle.std.proofs.Common.{◌≡◌, ◌++◌, ap, sym, ◌∙◌, append_assoc}
-use Rattle.tree_write.specs.Ink.{Ink, ink_of, with_bytes}
 use Rattle.tree_write.proofs.Inks.{blanks_more}
 use Rattle.tree_write.proofs.page.Page.blanks.Goals as goal
 
