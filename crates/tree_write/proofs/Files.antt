@@ -1,7 +1,7 @@
 -- A file's text.
 use Rattle.std.proofs.Common.{◌≡◌, ℕ, List, [], ◌++◌, Some, sym, ◌∙◌, ap, subst, false}
 use Rattle.ada_tree.specs.declared.kind.Kind.TheVariants as kind
-use Rattle.ada_tree.specs.declared.grammar.Choice.TheVariants.{Only}
+use Rattle.ada_tree.specs.declared.grammar.Choice.TheVariants.{Only, Expr}
 use Rattle.ada_tree.specs.declared.grammar.Shape.TheVariants.{One}
 use Rattle.ada_tree.specs.declared.node.Node.{Node}
 use Rattle.ada_tree.specs.Items.{signs}
@@ -15,6 +15,8 @@ use Rattle.lex_ada.specs.Rendered.{HasSigns}
 use Rattle.tree_write.specs.Ink.{Ink, after}
 use Rattle.tree_write.specs.Tasks.{as_written}
 use Rattle.tree_write.specs.Reread.{AreReadAs}
+use Rattle.tree_write.specs.Pens.{inside}
+use Rattle.tree_write.specs.SequentLines.{line_of}
 use Rattle.tree_write.proofs.Inks.{laid_out}
 
 abbrev blank_page : Ink
@@ -30,3 +32,12 @@ pub read_again : (file : Node) (bytes : List ℕ) → bytes ≡ file_text (Some 
 read_again file bytes e has reads =
     let same : AreReadAs (file_text (Some file)) file = record { tokens = has.tokens; fall = has.fall; reading = reads has.tokens has.fall } in
     subst (λ text. AreReadAs text file) (sym e) same
+
+-- ---- a term's line
+
+abbrev begun_line : Ink
+begun_line = record { bytes = []; pen = inside }
+
+pub line_written : (node : Node) (first last : Ink) → first ≡ begun_line → last ≡ after ((as_written node).at (One Expr)) first → last.bytes ++ line_end last.pen ≡ line_of node
+unfolding items_of
+line_written node first last f l = ap (λ (ink : Ink). ink.bytes ++ line_end ink.pen) (l ∙ ap (after ((as_written node).at (One Expr))) f) ∙ laid_out ((as_written node).at (One Expr)) begun_line

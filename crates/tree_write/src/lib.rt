@@ -4,7 +4,10 @@
 mod document;
 mod own;
 mod page;
+mod sequent;
 mod steps;
+mod tree;
 mod work;
 
 pub use document::write_doc;
+pub use sequent::write_sequent;

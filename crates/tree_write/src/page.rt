@@ -5,6 +5,7 @@ ghost use Rattle.ada_tree.specs.Tokens.{a_name, a_number, a_word, a_mark};
 ghost use Rattle.ada_tree.specs.Items.{put, put_small, line_break, indent, outdent, note_on, note_off, glue, comment_line};
 ghost use Rattle.ada_tree.specs.Canonical.{comment_lines};
 ghost use Rattle.ada_tree.specs.Rendering.{Pen, start, blanks, margin, has_no_blank_before, has_no_blank_after, gap, line_end, fresh};
+ghost use Rattle.tree_write.specs.Pens.{inside};
 ghost use Rattle.tree_write.specs.Ink.{ink_of, with_bytes, with_token, with_line_end, after, drawn};
 
 use ada_tree::{Mark, Word};
@@ -56,6 +57,19 @@ impl Page {
             outer: None,
             is_fresh: true,
             is_tight: false,
+        }
+    }
+
+    /// Nothing is written yet, and what comes stands in a line.
+    pub fn inside(alloc: Global) -> Self
+        ensures { ink_of result ≡ record { bytes = []; pen = inside } }
+    {
+        Page {
+            bytes: Vec::new(alloc),
+            depth: 0,
+            outer: None,
+            is_fresh: false,
+            is_tight: true,
         }
     }
 
