@@ -1,5 +1,5 @@
 -- The tree that a term is written as: a term of annotations, with names for the numbers of operators, types and components. So its text is that of the tree, by the same lines, levels and parentheses.
-use Rattle.std.specs.Prelude.{ℕ, suc, ℤ, pos, negsuc, List, [], ◌∷◌, ◌++◌, ◌==◌, length, take, drop, Bool, true, false, if◌then◌else◌, Option, Some, None, codes, slice_get, nat_eq}
+use Rattle.std.specs.Prelude.{ℕ, suc, ℤ, pos, negsuc, List, [], ◌∷◌, ◌++◌, ◌==◌, length, take, drop, Bool, true, false, if◌then◌else◌, codes, slice_get, nat_eq}
 use Rattle.std.specs.Option.{option_map_or}
 use Rattle.std.specs.List.{starts_with}
 use Rattle.std.specs.Fmt.{decimal}

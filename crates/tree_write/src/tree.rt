@@ -111,7 +111,14 @@ fn component(alloc: Global, names: &OpNames, number: u32, nodes: Vec<Node>) -> R
     ensures { IfOk result (λ node. node ≡ operation (component (named names.now.parts number)) nodes.items) }
 {
     let text = named(alloc, &names.parts, number)?;
-    operands(alloc, 1, Kind::Select, text.as_slice(), text.as_slice(), nodes)
+    operands(
+        alloc,
+        1,
+        Kind::Select,
+        text.as_slice(),
+        text.as_slice(),
+        nodes,
+    )
 }
 
 fn index(alloc: Global, mut nodes: Vec<Node>) -> Result<Node, Memory>
@@ -122,7 +129,12 @@ fn index(alloc: Global, mut nodes: Vec<Node>) -> Result<Node, Memory>
     tree(alloc, Kind::Apply, b"", nodes)
 }
 
-fn updater(alloc: Global, names: &OpNames, number: u32, mut nodes: Vec<Node>) -> Result<Node, Memory>
+fn updater(
+    alloc: Global,
+    names: &OpNames,
+    number: u32,
+    mut nodes: Vec<Node>,
+) -> Result<Node, Memory>
     ensures { IfOk result (λ node. node ≡ operation (updater (named names.now.parts number)) nodes.items) }
 {
     let text = named(alloc, &names.parts, number)?;
