@@ -1,0 +1,4 @@
+mod Cuts
+mod Files
+mod Inks
+mod Works
