@@ -1,2 +1,2 @@
-mod Law
+pub mod Law
 mod Starts

@@ -99,7 +99,7 @@ module _ {Symbol Part Token State : Type 0} (T : Table Symbol Part Token State) 
   sample (suc k) p = omitted (T.silence p) (first_some (sample_line (sample k)) (T.rows p))
 
   -- each token of a stack has an example
-  abbrev can_be_at : View Part → Symbol → Bool
+  abbrev pub can_be_at : View Part → Symbol → Bool
   can_be_at token s = is_some (example s)
   can_be_at _ s = true
 
@@ -114,7 +114,7 @@ module _ {Symbol Part Token State : Type 0} (T : Table Symbol Part Token State) 
   abbrev pub rows_can_be : Part → Bool
   rows_can_be p = list_all tail_can_be (T.rows p)
 
-  abbrev same : State → State
+  abbrev pub same : State → State
   same state = state
 
   -- nothing comes with the first of them
@@ -312,7 +312,7 @@ module _ {Symbol Part Token State : Type 0} (T : Table Symbol Part Token State) 
             let r = first_some_has (lead T (enter T depth) t) (T.rows p) l e in
             lead_behind depth t (enters depth t) r.0 l (all_has tail_can_be (T.rows p) r.0 (rows_good p) r.1) r.2
 
-        fed_can_be : (depth : ℕ) (ss : List Symbol) (state : State) (t : Token) (next : List Symbol × State) → can_be ss ≡ true → feed T depth ss state t ≡ Some next → can_be next.0 ≡ true
+        pub fed_can_be : (depth : ℕ) (ss : List Symbol) (state : State) (t : Token) (next : List Symbol × State) → can_be ss ≡ true → feed T depth ss state t ≡ Some next → can_be next.0 ≡ true
         fed_can_be depth ss state t next h e = by_lead (lead T (enter T depth) t ss) refl e
           where
             by_lead : (o : Option (List Symbol)) → lead T (enter T depth) t ss ≡ o → performed T o state t ≡ Some next → can_be next.0 ≡ true

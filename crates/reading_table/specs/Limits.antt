@@ -64,10 +64,10 @@ pub data Fed : Type 0 where
   refused deep : Fed
   admitted : Standing → Fed
 
-abbrev within : ℕ → Standing → Fed
+abbrev pub within : ℕ → Standing → Fed
 within round s = if fits round s then admitted s else deep
 
-abbrev fed_to : ℕ → ℕ → Option (List Placed × State) → Fed
+abbrev pub fed_to : ℕ → ℕ → Option (List Placed × State) → Fed
 fed_to round count None = refused
 fed_to round count (Some next) = within round record { stack = next.0; state = next.1; parentheses = count }
 
@@ -84,11 +84,11 @@ later (read state) = read state
 later (stopped n) = stopped (suc n)
 later (limited n) = limited (suc n)
 
-abbrev ended : Option (List Placed) → State → Outcome
+abbrev pub ended : Option (List Placed) → State → Outcome
 ended (Some line) state = read (apply reading_table line state)
 ended None state = stopped 0
 
-abbrev going_on : Fed → (Standing → Outcome) → Outcome
+abbrev pub going_on : Fed → (Standing → Outcome) → Outcome
 going_on refused more = stopped 0
 going_on deep more = limited 0
 going_on (admitted s) more = later (more s)
