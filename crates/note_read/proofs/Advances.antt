@@ -8,13 +8,14 @@ use Rattle.note_read.specs.Machines.{fed}
 use Rattle.reading_table.specs.declared.rule.Rule.{Rule}
 use Rattle.reading_table.specs.declared.symbol.Symbol.{Symbol}
 use Rattle.reading_table.proofs.Conditions.{table_is_predictive}
+use Rattle.reading_table.proofs.WeighedTable.{quiet_same}
 use Rattle.reading_table.specs.Machine.{apply}
 use Rattle.reading_table.specs.Reading.{reading_table, view_in}
 use Rattle.reading_table.specs.Rows.{Line, Placed, placed, side_in, silence}
 use Rattle.reading_table.specs.States.{Token, closes}
 use Rattle.reading_table.specs.Tables.{token, done, part}
 use Rattle.reading_table.specs.Weighed.{Weighed, weighed_table}
-use Rattle.note_read.proofs.WeighedTable.{chosen_same, quiet_same}
+use Rattle.note_read.proofs.WeighedTable.{chosen_same}
 
 pub quiet_fed : (depth : ℕ) (t : Token) (note : Bool) (s : Symbol) (ss : List Placed) (state : Weighed) → view_in note s ≡ done → fed depth t ((note, s) ∷ ss) state ≡ fed depth t ss (weighed_table.does (note, s) state)
 quiet_fed depth t note s ss state v = fed_done weighed_table depth t (note, s) ss state v

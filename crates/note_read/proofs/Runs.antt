@@ -1,7 +1,7 @@
 -- Reading signs one by one is reading the tokens that bring the comments before them.
 use Rattle.std.proofs.Common.{◌≡◌, ℕ, zero, suc, List, [], ◌∷◌, ◌++◌, refl, sym, ◌∙◌, ap, Bool, Option, Some, None, option_map, if◌then◌else◌, append_assoc, append-nil}
 use Rattle.ada_tree.specs.Tokens.{Lexeme, Sign, token, comment}
-use Rattle.note_read.specs.Signs.{read_signs, ended_at, at_first, read_by_table}
+use Rattle.note_read.specs.Signs.{read_signs, ended_at, read_by_table}
 use Rattle.reading_table.specs.Machine.{first_some, after, lead_at, lead, enter, perform_at, perform, performed, feed, hush, apply}
 use Rattle.reading_table.specs.Reading.{reading_table, deepest}
 use Rattle.reading_table.specs.Rows.{Part, Placed, rows}
@@ -9,7 +9,7 @@ use Rattle.reading_table.specs.Signs.{tokens_from, trailing_from}
 use Rattle.reading_table.specs.States.{Token, State}
 use Rattle.reading_table.specs.Tables.{View, token as is_token, done, part}
 use Rattle.reading_table.specs.Limits.{later, limited}
-use Rattle.reading_table.specs.Weighed.{Weighed, weighed_table, Progress, with_token, is_within, ended_by, within_limits, with_next, run_weighed}
+use Rattle.reading_table.specs.Weighed.{at_beginning, Weighed, weighed_table, Progress, with_token, is_within, ended_by, within_limits, with_next, run_weighed}
 
 first_same : {A B : Type 0} → (f g : A → Option B) → ((x : A) → f x ≡ g x) → (xs : List A) → first_some f xs ≡ first_some g xs
 first_same f g h [] = refl
@@ -101,5 +101,5 @@ run_reads round (token note lexeme ∷ signs) waiting p =
     by_fed (Some next) go = ap (λ o. if is_within round next then later o else limited 0) (go next ∙ ap (λ q. read_signs round q signs) (waits_for_none next))
 
 -- reading signs one by one is a run over the tokens
-pub read_is_run : (round : ℕ) (ss : List Placed) (signs : List Sign) → read_by_table round ss signs ≡ read_signs round (at_first ss) signs
-read_is_run round ss signs = run_reads round signs [] (at_first ss) ∙ ap (λ q. read_signs round q signs) (waits_for_none (at_first ss))
+pub read_is_run : (round : ℕ) (ss : List Placed) (signs : List Sign) → read_by_table round ss signs ≡ read_signs round (at_beginning ss) signs
+read_is_run round ss signs = run_reads round signs [] (at_beginning ss) ∙ ap (λ q. read_signs round q signs) (waits_for_none (at_beginning ss))

@@ -2,7 +2,6 @@
 use Rattle.std.proofs.Common.{◌≡◌, ℕ, zero, suc, List, [], ◌∷◌, refl, ap, Bool}
 use Rattle.std.specs.Prelude.{find, is_some}
 use Rattle.note_read.specs.Choosing.{begins_at, line_begins, chosen}
-use Rattle.reading_table.proofs.Sound.{IsQuiet}
 use Rattle.reading_table.specs.Reading.{reading_table}
 use Rattle.reading_table.specs.Rows.{Part, Placed}
 use Rattle.reading_table.specs.States.{Token}
@@ -28,7 +27,3 @@ chosen_same zero t p = refl
 chosen_same (suc depth) t p =
     found_same (line_begins weighed_table (λ q. is_some (chosen weighed_table depth t q)) t) (line_begins reading_table (λ q. is_some (chosen reading_table depth t q)) t)
     (line_same (λ q. is_some (chosen weighed_table depth t q)) (λ q. is_some (chosen reading_table depth t q)) t (λ q. ap is_some (chosen_same depth t q))) (reading_table.rows p)
-
-pub quiet_same : (line : List Placed) → IsQuiet reading_table line → IsQuiet weighed_table line
-quiet_same [] h = tt
-quiet_same (s ∷ ss) h = (h.0, quiet_same ss h.1)

@@ -9,13 +9,13 @@ use Rattle.note_read.specs.declared.reading.Reading.TheVariants as reading
 use Rattle.note_read.specs.declared.sign.Sign.{Sign as ReadSign}
 use Rattle.note_read.specs.declared.sign.Sign.TheVariants as sign
 use Rattle.note_read.specs.Lexemes.{lexeme_of}
-use Rattle.note_read.specs.Machines.{nothing_read, commented, ended}
+use Rattle.note_read.specs.Machines.{commented, ended}
 use Rattle.note_read.specs.Values.{state_of}
 use Rattle.reading_table.specs.Limits.{Outcome, read, stopped, limited}
 use Rattle.reading_table.specs.Reading.{deepest}
 use Rattle.reading_table.specs.Rows.{Placed}
 use Rattle.reading_table.specs.Signs.{tokens_of, end_of}
-use Rattle.reading_table.specs.Weighed.{Weighed, Progress, with_token, within_limits, with_next, run_weighed}
+use Rattle.reading_table.specs.Weighed.{Weighed, Progress, with_token, within_limits, at_beginning, with_next, run_weighed}
 
 -- a sign of the code as the grammar has it
 abbrev pub signs_of : Option ReadSign → List Sign
@@ -44,13 +44,9 @@ outcome_of (reading.Read values) = read (state_of values)
 outcome_of (reading.Refused count) = stopped count
 outcome_of (reading.Limited count) = limited count
 
--- nothing has been read, and these symbols are to be read
-abbrev pub at_first : List Placed → Progress
-at_first ss = record { stack = ss; weighed = nothing_read; parentheses = 0 }
-
 -- How reading ends where nothing was read before, by the machine's definition: each token with the comments before it.
 abbrev pub read_by_table : ℕ → List Placed → List Sign → Outcome
-read_by_table round ss signs = run_weighed round (end_of signs) (with_next (end_of signs) (tokens_of signs) (at_first ss)) (tokens_of signs)
+read_by_table round ss signs = run_weighed round (end_of signs) (with_next (end_of signs) (tokens_of signs) (at_beginning ss)) (tokens_of signs)
 
 -- how reading the tokens of a text, with their comments, ends
 pub record IsReadFrom (round : ℕ) (ss : List Placed) (bytes : List ℕ) (outcome : Outcome) : Type 0 where

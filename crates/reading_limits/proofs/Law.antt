@@ -36,7 +36,7 @@ use Rattle.reading_limits.proofs.Texts.{tokens-append, trailing-append, Split, R
 
 -- ---- what the grammar reads within the limits
 
-starts_on : (signs : List Sign) → On ([], 0) (at_start signs)
+pub starts_on : (signs : List Sign) → On ([], 0) (at_start signs)
 starts_on signs = subst (λ vs. On ([], 0) record { values = vs; waiting = [] }) (sym (arrived_is (trailing_from [] signs) (tokens_of signs) nothing_read)) refl
 
 few_open : (signs : List Sign) → open_in 0 signs ≤ MOST_OPEN → open_along 0 (tokens_of signs) ≤ MOST_OPEN

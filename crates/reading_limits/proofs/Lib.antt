@@ -17,3 +17,4 @@ pub mod Steps
 pub mod Tags
 pub mod Texts
 pub mod Values
+pub mod Weighing

@@ -145,7 +145,7 @@ line_in_place a s p line ss v k o c f =
       calm = calm_in_place s.0 p.1 line ss a.1 c o (subst (λ s. is_calm a.1 (s ∷ ss) ≡ true) e f.calm);
     }
 
-token_stays : (a : List Tag × ℕ) (s : Placed) (ss : List Placed) (state : State) (t : Token) → view_in s.0 s.1 ≡ token → reading_table.fits s state t ≡ true → Fine a (s ∷ ss) → On a state
+pub token_stays : (a : List Tag × ℕ) (s : Placed) (ss : List Placed) (state : State) (t : Token) → view_in s.0 s.1 ≡ token → reading_table.fits s state t ≡ true → Fine a (s ∷ ss) → On a state
     → Fed reading_table Fine On Goes a t (ss, taken s.1 state t.lexeme)
 token_stays a s ss state t v g f o =
     let p = steps s ss a.0 f.out f.moves_to in
@@ -157,7 +157,7 @@ token_stays a s ss state t v g f o =
       goes = (behind_token a.1 s state t v g).0;
     }
 
-done_stays : (a : List Tag × ℕ) (s : Placed) (ss : List Placed) → view_in s.0 s.1 ≡ done → Fine a (s ∷ ss) → After reading_table Fine On Goes a s ss (λ state. does s.1 state)
+pub done_stays : (a : List Tag × ℕ) (s : Placed) (ss : List Placed) → view_in s.0 s.1 ≡ done → Fine a (s ∷ ss) → After reading_table Fine On Goes a s ss (λ state. does s.1 state)
 done_stays a s ss v f =
     let p = steps s ss a.0 f.out f.moves_to in
     let q = and_parts (at_rest a.1 s.1) (is_calm (open_behind a.1 s.1) ss) f.calm in
@@ -175,7 +175,7 @@ done_stays a s ss v f =
       goes = λ t c g. g ∙ ap (λ n. open_after n t.lexeme) b.0;
     }
 
-table_keeps : Kept reading_table Fine On Goes
+pub table_keeps : Kept reading_table Fine On Goes
 table_keeps = record {
   token_step = token_stays;
   quiet = table_is_predictive.quiet;

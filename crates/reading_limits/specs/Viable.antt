@@ -10,6 +10,7 @@ use Rattle.reading_exact.specs.Whole.{are_signs, whole_start, at_start, GrammarR
 use Rattle.reading_table.specs.Limits.{Standing, Outcome, run_within}
 use Rattle.reading_table.specs.Signs.{tokens_of, end_of}
 use Rattle.reading_table.specs.States.{State}
+use Rattle.reading_table.specs.Weighed.{at_beginning, with_next, run_weighed}
 use Rattle.reading_table.specs.declared.held.Held.TheVariants as held
 
 -- The grammar reads the tokens and comments as the node, within the limits, where so many nodes that count are round it.
@@ -84,3 +85,7 @@ pub record TableReadsWithin (round : ℕ) (part : GrammarPart) (signs : List Sig
   pub state : State
   pub read_is : read_within round part signs ≡ Outcome.read state
   pub only : state.values ≡ held.Tree node ∷ []
+
+-- the same with what limits see kept beside the values
+abbrev pub read_weighed : ℕ → GrammarPart → List Sign → Outcome
+read_weighed round part signs = run_weighed round (end_of signs) (with_next (end_of signs) (tokens_of signs) (at_beginning (whole_start part))) (tokens_of signs)

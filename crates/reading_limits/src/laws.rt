@@ -9,7 +9,7 @@ ghost use Rattle.reading_table.specs.Limits.{read, stopped, limited};
 ghost use Rattle.reading_table.specs.Spelled.{has_texts};
 ghost use Rattle.reading_table.specs.States.{State};
 ghost use Rattle.reading_exact.specs.Whole.{are_signs};
-ghost use Rattle.reading_limits.specs.Viable.{ReadsWithin, TableReadsWithin, ReadsNode, GoesOnWithin, StopsAt, IsLimitedAt, read_within};
+ghost use Rattle.reading_limits.specs.Viable.{ReadsWithin, TableReadsWithin, ReadsNode, GoesOnWithin, StopsAt, IsLimitedAt, read_within, read_weighed};
 
 /// The table reads the tokens and comments of a text within the limits as a node of a part of the
 /// grammar exactly where the grammar does, with so many nodes that count round it; a file without
@@ -31,4 +31,10 @@ pub fn reading_stops_at_the_first_token()
         → has_texts part ≡ true → are_signs signs ≡ true → read_within round part signs ≡ stopped n → StopsAt round part signs n }
     ensures limited { (round : ℕ) (part : APart) (signs : List Sign) (n : ℕ)
         → has_texts part ≡ true → are_signs signs ≡ true → read_within round part signs ≡ limited n → IsLimitedAt round part signs n }
+{}
+
+/// Where what limits see of the values is kept beside them, and no tree is looked at, reading is the same.
+pub fn limits_need_no_look_at_trees()
+    ensures { (round : ℕ) (part : APart) (signs : List Sign)
+        → has_texts part ≡ true → read_weighed round part signs ≡ read_within round part signs }
 {}

@@ -7,4 +7,6 @@
 
 mod laws;
 
-pub use laws::{reading_stops_at_the_first_token, the_table_reads_within_limits};
+pub use laws::{
+    limits_need_no_look_at_trees, reading_stops_at_the_first_token, the_table_reads_within_limits,
+};

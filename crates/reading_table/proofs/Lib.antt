@@ -11,3 +11,4 @@ pub mod Samples
 pub mod Signs
 pub mod Sound
 pub mod TokenSets
+pub mod WeighedTable

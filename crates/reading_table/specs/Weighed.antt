@@ -36,6 +36,10 @@ pub record Progress : Type 0 where
   pub weighed : Weighed
   pub parentheses : ℕ
 
+-- nothing has been read, and these symbols are to be read
+abbrev pub at_beginning : List Placed → Progress
+at_beginning ss = record { stack = ss; weighed = record { state = record { values = []; waiting = [] }; masses = [] }; parentheses = 0 }
+
 -- how high what is read becomes at least
 abbrev pub height_to_be : Progress → Height
 height_to_be p = highest (least p.stack p.weighed.masses)
@@ -44,13 +48,14 @@ height_to_be p = highest (least p.stack p.weighed.masses)
 abbrev pub is_within : ℕ → Progress → Bool
 is_within round p = (nat_le (round + (height_to_be p).nodes) MOST_NESTED && nat_le (height_to_be p).steps MOST_NESTED_STEPS) && nat_le (widest p.parentheses p.stack) MOST_OPEN
 
+-- behind a token with which so many parentheses are open
+abbrev pub at_next : ℕ → Option (List Placed × Weighed) → Option Progress
+at_next count None = None
+at_next count (Some next) = Some record { stack = next.0; weighed = next.1; parentheses = count }
+
 -- what the token makes of it, if some reading admits the token
 abbrev pub with_token : ℕ → Progress → Token → Option Progress
-with_token depth p t = by (feed weighed_table depth p.stack p.weighed t)
-  where
-    by : Option (List Placed × Weighed) → Option Progress
-    by None = None
-    by (Some next) = Some record { stack = next.0; weighed = next.1; parentheses = open_after p.parentheses t.lexeme }
+with_token depth p t = at_next (open_after p.parentheses t.lexeme) (feed weighed_table depth p.stack p.weighed t)
 
 abbrev pub ended_by : Option (List Placed) → Weighed → Outcome
 ended_by None w = stopped 0
