@@ -1,1 +1,2 @@
 pub mod EmptyFiles
+pub mod CommentedFile

@@ -29,3 +29,5 @@ mod terms;
 mod tokens;
 #[cfg(test)]
 mod trees;
+#[cfg(test)]
+mod writing;

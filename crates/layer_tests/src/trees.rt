@@ -112,7 +112,7 @@ fn empty_file(alloc: Global) -> Node
     }
 }
 
-fn document(alloc: Global, files: Kids) -> Node
+pub fn document(alloc: Global, files: Kids) -> Node
     ensures { result ≡ node_of kind.Doc [] [] files }
 {
     Node {

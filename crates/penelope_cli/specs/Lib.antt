@@ -4,5 +4,4 @@ pub mod Commands
 pub mod Paths
 pub mod Promises
 pub mod Report
-pub mod TermText
 pub mod Words

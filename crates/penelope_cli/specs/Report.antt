@@ -1,11 +1,11 @@
 -- The report of a unit.
-use Rattle.std.specs.Prelude.{ℕ, suc, List, [], ◌∷◌, ◌++◌, codes}
+use Rattle.std.specs.Prelude.{ℕ, List, [], ◌∷◌, ◌++◌, codes}
 use Rattle.std.specs.List.{flat_map}
 use Rattle.std.specs.Fmt.{decimal}
-use Rattle.term_core.specs.declared.term.Term.{Term}
-use Rattle.term_core.specs.declared.sequent.Var.{Var}
+use Rattle.term_core.specs.declared.names.OpNames.{OpNames}
 use Rattle.term_core.specs.declared.obligation.Obligation.{Obligation}
-use Rattle.penelope_cli.specs.TermText.{written}
+use Rattle.tree_write.specs.SequentLines.{sequent_lines}
+use Rattle.penelope_cli.specs.declared.report.TheConstants.{INDENT}
 
 abbrev pub line_end : List ℕ
 line_end = 10 ∷ []
@@ -17,23 +17,12 @@ unit_line name = codes "unit " ++ name ++ codes " incomplete" ++ line_end
 abbrev pub key_line : Obligation → List ℕ
 key_line obligation = codes "  " ++ obligation.cut ++ codes "." ++ decimal obligation.ordinal ++ codes " open" ++ line_end
 
-abbrev pub var_line : Var → List ℕ
-var_line var = codes "    var " ++ var.name ++ codes " : " ++ var.label ++ line_end
-
-abbrev pub hyp_line : ℕ → Term → List ℕ
-hyp_line number term = codes "    hyp " ++ decimal number ++ codes " : " ++ (written term).text ++ line_end
-
-abbrev pub goal_line : Term → List ℕ
-goal_line term = codes "    goal " ++ (written term).text ++ line_end
-
--- hypotheses are numbered from 1
-abbrev pub hyp_lines : ℕ → List Term → List ℕ
-hyp_lines number [] = []
-hyp_lines number (term ∷ terms) = hyp_line number term ++ hyp_lines (suc number) terms
+-- no term has an operator, a type or a component with a name yet
+abbrev pub no_names : OpNames
+no_names = record { ops = []; types = []; parts = [] }
 
 abbrev pub obligation_lines : Obligation → List ℕ
-obligation_lines obligation =
-    key_line obligation ++ flat_map var_line obligation.sequent.vars ++ hyp_lines 1 obligation.sequent.hyps ++ goal_line obligation.sequent.goal
+obligation_lines obligation = key_line obligation ++ sequent_lines INDENT no_names obligation.sequent
 
 abbrev pub report_of : List ℕ → List Obligation → List ℕ
 report_of name obligations = unit_line name ++ flat_map obligation_lines obligations

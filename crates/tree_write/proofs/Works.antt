@@ -8,13 +8,14 @@ use Rattle.ada_tree.specs.declared.kind.Kind.TheVariants as kind
 use Rattle.ada_tree.specs.declared.grammar.Choice.{Choice}
 use Rattle.ada_tree.specs.declared.grammar.Choice.TheVariants as choice
 use Rattle.ada_tree.specs.declared.grammar.Piece.{Piece}
-use Rattle.ada_tree.specs.declared.node.Node.{Node, Node-F, fold_out-Node}
+use Rattle.ada_tree.specs.declared.node.Node.{Node, fold_out-Node}
 use Rattle.ada_tree.specs.Items.{Item}
-use Rattle.ada_tree.specs.Nodes.{kind_of, text_of, notes_of, kids_of}
+use Rattle.ada_tree.specs.Nodes.{kind_of, text_of, kids_of}
 use Rattle.ada_tree.specs.Lines.{line}
-use Rattle.ada_tree.specs.Canonical.{Written, written, are_bare, arguments}
+use Rattle.ada_tree.specs.Canonical.{Written, are_bare, arguments}
 use Rattle.ada_tree.specs.declared.grammar.Argument.{Argument}
 use Rattle.ada_tree.proofs.Found.{line_holds}
+use Rattle.text_laws.proofs.round_trip.Written.{opened}
 use Rattle.tree_write.specs.declared.work.Task.{Task}
 use Rattle.tree_write.specs.Tasks.{as_written, all_written, task_items, work_items, node_cost, cost_of_all, node_steps, total, line_cost}
 
@@ -22,15 +23,6 @@ pub work_items-push : (tasks : List Task) (task : Task) → work_items (tasks ++
 work_items-push tasks task = fold-append (λ rest task. task_items task ++ rest) [] tasks (task ∷ [])
 
 -- ---- a node, with what its kids are written as
-
-abbrev pub layer_of : Node → Node-F Written
-layer_of node = record { kind = kind_of node; text = text_of node; notes = notes_of node; kids = all_written (kids_of node) }
-
-pub opened : (node : Node) → as_written node ≡ written (layer_of node)
-opened node = fold_out-Node Written written node
-
-pub notes_written : (node : Node) → (as_written node).notes ≡ notes_of node
-notes_written node = ap (λ w. w.notes) (opened node)
 
 pub arguments_written : (line : List Argument) (node : Node) (kids : List Node) → kids ≡ kids_of node → arguments line (all_written kids) ≡ (as_written node).as_arguments line
 arguments_written line node kids e = ap (λ nodes. arguments line (all_written nodes)) e ∙ sym (ap (λ w. w.as_arguments line) (opened node))
