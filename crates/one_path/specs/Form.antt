@@ -132,8 +132,12 @@ statements_of sequence = statements_in (kids_if kind.Seq sequence)
 abbrev pub is_integer : Node → Bool
 is_integer mark = is_of kind.Name mark && bytes_eq (text_of mark) integer
 
+-- the name that a formal declares
+abbrev pub id_of : Node → Option (List ℕ)
+id_of = text_if kind.Id
+
 abbrev pub group_by : List ℕ → List Node → Option (List (List ℕ))
-group_by mode (ids ∷ mark ∷ []) = if bytes_eq mode (codes "in out") && is_integer mark then all_of (text_if kind.Id) (kids_of ids) else None
+group_by mode (ids ∷ mark ∷ []) = if bytes_eq mode (codes "in out") && is_integer mark then all_of id_of (kids_of ids) else None
 group_by mode _ = None
 
 abbrev pub group_of : Node → Option (List (List ℕ))

@@ -9,4 +9,5 @@ mod form;
 mod procedure;
 
 
+pub use form::form_of;
 pub use procedure::{Atom, Clause, Clauses, Operand, Procedure, Statement, Statements};
