@@ -1,9 +1,10 @@
 -- The conditions, as a test and as a record.
-use Rattle.std.proofs.Common.{◌≡◌, ℕ, ◌≤◌, Bool, true, false, not, ◌&&◌, refl, arith}
-use Rattle.std.specs.Prelude.{nat_le}
+use Rattle.std.proofs.Common.{◌≡◌, ℕ, ◌≤◌, Bool, true, false, not, ◌&&◌, refl, sym, arith, ap, subst, Option, Some, None, ◌↔◌}
+use Rattle.std.specs.Prelude.{nat_le, if◌then◌else◌}
 use Rattle.std.proofs.lemmas.Bool.Decides.{nat_tests}
 use Rattle.one_path.specs.declared.procedure.Procedure.{Procedure}
 use Rattle.one_path.specs.Conditions.{Meets, meets}
+use Rattle.one_path.specs.Form.{kept}
 
 -- both parts of a test that passes
 both : (a b : Bool) → (a && b) ≡ true → (a ≡ true) × (b ≡ true)
@@ -48,3 +49,18 @@ met unit e =
 -- and one that meets them passes it
 pub meets_passes : (unit : Procedure) → Meets unit → meets unit ≡ true
 meets_passes unit m = seven _ _ _ _ _ _ _ (le_passes _ _ m.few_formals) (le_passes _ _ m.few_clauses) (le_passes _ _ m.few_statements) m.distinct m.not_integer m.clauses_known m.statements_known
+
+kept_by : (unit other : Procedure) (passes : Bool) → meets unit ≡ passes → (if passes then Some unit else None) ≡ Some other → (unit ≡ other) × Meets other
+kept_by unit other true m e = let same : unit ≡ other = cc in (same, subst Meets same (met unit m))
+kept_by unit other false m e = cc
+
+kept_from : (read : Option Procedure) (unit : Procedure) → kept read ≡ Some unit → (read ≡ Some unit) × Meets unit
+kept_from None unit e = cc
+kept_from (Some taken) unit e = let both_facts = kept_by taken unit (meets taken) refl e in (ap Some both_facts.0, both_facts.1)
+
+kept_to : (read : Option Procedure) (unit : Procedure) → (read ≡ Some unit) × Meets unit → kept read ≡ Some unit
+kept_to read unit h = subst (λ taken. kept taken ≡ Some unit) (sym h.0) (let passes : meets unit ≡ true = meets_passes unit h.1 in rw passes refl)
+
+-- what is kept is what meets the conditions
+pub kept_exactly : (read : Option Procedure) (unit : Procedure) → (kept read ≡ Some unit) ↔ ((read ≡ Some unit) × Meets unit)
+kept_exactly read unit = (kept_from read unit, kept_to read unit)

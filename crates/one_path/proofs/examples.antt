@@ -1,11 +1,11 @@
 -- Worked examples: what is taken from an item, written out as a tree. Each refused item differs from the one of the form in one place.
-use Rattle.std.proofs.Common.{◌≡◌, ℕ, List, [], ◌∷◌, Option, Some, None, ap}
+use Rattle.std.proofs.Common.{◌≡◌, ℕ, List, [], ◌∷◌, Some, None, ap}
 use Rattle.std.specs.Prelude.{codes}
 use Rattle.ada_tree.specs.declared.kind.Kind.{Kind}
 use Rattle.ada_tree.specs.declared.kind.Kind.TheVariants as kind
 use Rattle.ada_tree.specs.declared.node.Node.{Node, Node-F, out-roll-Node}
 use Rattle.ada_tree.specs.Nodes.{node_of, kind_of, text_of, kids_of}
-use Rattle.ada_tree.proofs.Trees.{Tree, Forest, no_trees, ◌&◌, grown, texted, plain, none, list, id, name, int, binary, old, assign, null, apply, commented}
+use Rattle.ada_tree.proofs.Trees.{Tree, Forest, no_trees, ◌&◌, grown, texted, plain, none, list, id, name, int, binary, old, assign, null, commented}
 use Rattle.one_path.specs.declared.procedure.Procedure.{Procedure}
 use Rattle.one_path.specs.declared.procedure.Statement.{Statement}
 use Rattle.one_path.specs.declared.procedure.Statement.TheVariants as statement

@@ -181,6 +181,9 @@ unit_in _ = None
 abbrev pub procedure_of : Node → Option Procedure
 procedure_of item = unit_in (kids_if kind.Unit item)
 
--- and that meets the conditions
+-- a procedure that meets the conditions
+abbrev pub kept : Option Procedure → Option Procedure
+kept read = option_and_then (λ unit. if meets unit then Some unit else None) read
+
 abbrev pub form_of : Node → Option Procedure
-form_of item = option_and_then (λ unit. if meets unit then Some unit else None) (procedure_of item)
+form_of item = kept (procedure_of item)

@@ -169,11 +169,7 @@ fn clauses_of(alloc: Global, node: &Node) -> Result<Option<Clauses>, Memory>
     }
 }
 
-fn assignment_of(
-    alloc: Global,
-    target: &Node,
-    value: &Node,
-) -> Result<Option<Statement>, Memory>
+fn assignment_of(alloc: Global, target: &Node, value: &Node) -> Result<Option<Statement>, Memory>
     ensures { IfOk result (λ statement. statement ≡ spec.two Assign (spec.name_of target.now) (spec.atom_of value.now)) }
 {
     let target = text_if(alloc, Kind::Name, target)?;
@@ -313,6 +309,8 @@ fn procedure_of(alloc: Global, item: &Node) -> Result<Option<Procedure>, Memory>
 pub fn form_of(alloc: Global, item: &Node) -> Result<Option<Procedure>, Memory>
     ensures form { IfOk result (λ read. read ≡ spec.form_of item.now) }
     ensures meets { IfOk result (λ read. IfSome read (λ unit. Meets unit)) }
+    // which is a procedure of the form exactly where it meets the conditions
+    ensures exactly { (unit : TakenProcedure) → (spec.form_of item.now ≡ Some unit) ↔ ((spec.procedure_of item.now ≡ Some unit) × Meets unit) }
 {
     let Some(unit) = procedure_of(alloc, item)? else {
         return Ok(None);

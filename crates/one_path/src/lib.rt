@@ -8,6 +8,5 @@ mod conditions;
 mod form;
 mod procedure;
 
-
 pub use form::form_of;
 pub use procedure::{Atom, Clause, Clauses, Operand, Procedure, Statement, Statements};

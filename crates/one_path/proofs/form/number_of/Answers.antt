@@ -1,7 +1,6 @@
-use Rattle.std.proofs.Common.{◌≡◌, true, sym, subst, rules}
+use Rattle.std.proofs.Common.{◌≡◌, true, sym, rules}
 use Rattle.std.specs.List.{list_all}
 use Rattle.std.specs.Char.{is_ascii_digit}
-use Rattle.std.specs.Str.Parse.{ParsesUnsigned}
 use Rattle.one_path.proofs.Numbers.{digits_are_text, not_parsed}
 use Rattle.one_path.proofs.form.number_of.Goals as goal
 
