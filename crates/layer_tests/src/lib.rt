@@ -16,6 +16,8 @@ mod documents;
 #[cfg(test)]
 mod edges;
 #[cfg(test)]
+mod forms;
+#[cfg(test)]
 mod names;
 #[cfg(test)]
 mod reading;

@@ -1,5 +1,5 @@
 -- Which items of a file are procedures of the one form, and of what. The form, as the grammar writes it:
---     item    = "procedure" id "(" formals ")" [where] "is" "begin" {stmt} "end" [id] ";"
+--     item    = "procedure" id "(" formals ")" [where] "is" "begin" {stmt}+ "end" [id] ";"
 --     formals = ids ":" "in" "out" "INTEGER" { ";" ids ":" "in" "out" "INTEGER" }
 --     ids     = id { "," id }
 --     where   = "where" { clause } "end" "where" ";"
@@ -7,7 +7,7 @@
 --     stmt    = "null" ";" | id ":=" atom ";"
 --     old     = atom | "in" id
 --     atom    = id | number
--- It is asked of the tree: of the kinds of nodes, of their texts, and of their kids, each by its place in the line of its node. Comments, parentheses and the closing name don't matter.
+-- It is asked of the tree: of the kinds of nodes, of their texts, and of their kids, each by its place in the line of its node. Comments, parentheses and the closing name don't matter, and that there is a formal and a statement says the grammar of trees.
 use Rattle.std.specs.Prelude.{ℕ, List, [], ◌∷◌, Bool, not, ◌&&◌, nat_le, Option, Some, None, option_map, bytes_eq, codes, if◌then◌else◌}
 use Rattle.std.specs.List.{flat_map, list_all}
 use Rattle.std.specs.Option.{option_and_then}
@@ -110,7 +110,7 @@ clauses_by _ kids = None
 abbrev pub clauses_of : Node → Option (List Clause)
 clauses_of node = clauses_by (kind_of node) (kids_of node)
 
--- ---- {stmt}, without handlers: stmt = "null" ";" | id ":=" atom ";"
+-- ---- {stmt}+, without handlers: stmt = "null" ";" | id ":=" atom ";"
 
 abbrev pub statement_by : Kind → List Node → Option Statement
 statement_by kind.Null kids = Some Null
@@ -163,7 +163,7 @@ header_in _ = None
 abbrev pub header_of : Node → Option (List (List ℕ))
 header_of specification = header_in (kids_if kind.Proc specification)
 
--- ---- item = "procedure" id "(" formals ")" [where] "is" "begin" {stmt} "end" [id] ";", without context clauses and declarations
+-- ---- item = "procedure" id "(" formals ")" [where] "is" "begin" {stmt}+ "end" [id] ";", without context clauses and declarations
 
 abbrev pub procedure_with : List ℕ → Option (List (List ℕ)) → Option (List Clause) → Option (List Statement) → Option Procedure
 procedure_with name (Some formals) (Some clauses) (Some statements) = Some record { name = name; formals = formals; clauses = clauses; statements = statements }
