@@ -4,7 +4,7 @@ ghost use Rattle.std.specs.Prelude.{◌≡◌, ◌+◌, ◌-◌, ◌%◌, ◌<�
 ghost use Rattle.std.proofs.Common.{rules};
 ghost use Rattle.attr_engine.specs.Rules.{values};
 
-use attr_engine::{EngineError, Grammar, Shape, attribute, reattribute, splice};
+use attr_engine::{EngineError, Grammar, Shape, Tree, attribute, reattribute, splice};
 use base_kit::{Ledger, Memory, Path, Steps, Tally};
 use sqlite_items::Items;
 use std::alloc::Global;
@@ -100,9 +100,7 @@ fn over(
     first: Shape<Dial>,
     last: Shape<Dial>,
 ) -> Result<Shape<Dial>, Memory> {
-    let mut kids = Items::new(alloc);
-    kids.push(first)?;
-    kids.push(last)?;
+    let kids = Items::from_vec(vec![in alloc; first, last]?);
     Ok(Shape { label, kids })
 }
 
@@ -112,11 +110,24 @@ fn small(alloc: Global) -> Result<Shape<Dial>, Memory> {
     over(alloc, 1, left, leaf(alloc, 3))
 }
 
-// The root's result under an inherited place, or 1000 and more where there is none; and how often `up` was
-// called for the tree and then for what is done to it.
+// The root's result under an inherited place, and how often `up` was called for the tree and then for what is
+// done to it.
 type Seen = (u32, u64, u64);
 
-fn grown<P: Page>(
+impl Dial {
+    fn new() -> Self {
+        Dial {
+            calls: Cell::new(0),
+        }
+    }
+
+    // The result, and the calls of `up` before and since there were so many.
+    fn seen(&self, tree: &Tree<Dial>, made: u64) -> Seen {
+        (*tree.out(), made, self.calls.get().saturating_sub(made))
+    }
+}
+
+fn grown_by<P: Page>(
     alloc: Global,
     blank: Blank,
     shape: Shape<Dial>,
@@ -127,43 +138,17 @@ fn grown<P: Page>(
     requires parts { blank.parts ≡ P.parts }
     requires some { 0 < blank.parts }
 {
-    let dial = Dial {
-        calls: Cell::new(0),
-    };
+    let dial = Dial::new();
     let mut steps = Steps::new(Tally::<P>::new(blank));
     let tree = attribute(alloc, &dial, shape, first, &mut steps)?;
     let made = dial.calls.get();
     let other = reattribute(alloc, &dial, &tree, then, &mut steps)?;
-    Ok((*other.out(), made, dial.calls.get().saturating_sub(made)))
+    Ok(dial.seen(&other, made))
 }
 
-// The same after an edit: one leaf with this label in place of the children from `from` up to `to`.
-fn edited<P: Page>(
-    alloc: Global,
-    blank: Blank,
-    path: Vec<u32>,
-    range: (usize, usize),
-    label: u32,
-) -> Result<Seen, EngineError>
-    requires name { blank.name ≡ P.name }
-    requires parts { blank.parts ≡ P.parts }
-    requires some { 0 < blank.parts }
-{
-    let dial = Dial {
-        calls: Cell::new(0),
-    };
-    let mut steps = Steps::new(Tally::<P>::new(blank));
-    let tree = attribute(alloc, &dial, small(alloc)?, 0, &mut steps)?;
-    let made = dial.calls.get();
-    let mut shapes = Vec::new(alloc);
-    if shapes.push(leaf(alloc, label)).is_err() {
-        return Err(EngineError::Memory);
-    }
-    let path = Path(path);
-    let new = splice(
-        alloc, &dial, &tree, &path, range.0, range.1, shapes, 0, &mut steps,
-    )?;
-    Ok((*new.out(), made, dial.calls.get().saturating_sub(made)))
+// Under one inherited place, and then under another.
+fn grown(alloc: Global, shape: Shape<Dial>, first: u32, then: u32) -> Result<Seen, Memory> {
+    grown_by::<Brand>(alloc, Blank::new(1), shape, first, then)
 }
 
 // A chain of nodes without a label of their own, each the only child of the one above.
@@ -186,76 +171,95 @@ fn wide(alloc: Global, count: u32) -> Result<Shape<Dial>, Memory> {
     Ok(Shape { label: 0, kids })
 }
 
-fn is_bad(alloc: Global, path: Vec<u32>, range: (usize, usize)) -> bool {
-    match edited::<Brand>(alloc, Blank::new(1), path, range, 9) {
-        Err(EngineError::BadPath) => true,
-        _ => false,
-    }
-}
-
 #[test]
 fn trees_are_attributed_again(rt: HostRuntime) -> Result<(), Fail> {
     let alloc = rt.alloc();
-    let same = grown::<Brand>(
-        alloc,
-        Blank::new(1),
-        small(alloc).ok().expect(&rt, "memory"),
-        0,
-        0,
-    );
-    assert_eq!(rt; same.ok(), Some((57, 5, 0)));
-    let other = grown::<Brand>(
-        alloc,
-        Blank::new(1),
-        small(alloc).ok().expect(&rt, "memory"),
-        0,
-        1,
-    );
-    assert_eq!(rt; other.ok(), Some((64, 5, 5)));
-    let chain = grown::<Brand>(
-        alloc,
-        Blank::new(1),
-        deep(alloc, 100).ok().expect(&rt, "memory"),
-        5,
-        6,
-    );
-    assert_eq!(rt; chain.ok(), Some((600, 100, 100)));
+    assert_eq!(rt; grown(alloc, small(alloc)?, 0, 0)?, (57, 5, 0));
+    assert_eq!(rt; grown(alloc, small(alloc)?, 0, 1)?, (64, 5, 5));
+    assert_eq!(rt; grown(alloc, deep(alloc, 100)?, 5, 6)?, (600, 100, 100));
     // The first leaf's place comes round to what it was.
-    let row = grown::<Brand>(
-        alloc,
-        Blank::new(1),
-        wide(alloc, 1000).ok().expect(&rt, "memory"),
-        0,
-        1,
-    );
-    assert_eq!(rt; row.ok(), Some((1, 1001, 1000)));
+    assert_eq!(rt; grown(alloc, wide(alloc, 1000)?, 0, 1)?, (1, 1001, 1000));
     Ok(())
 }
 
-#[test]
-fn edits_make_anew_what_moved(rt: HostRuntime) -> Result<(), Fail> {
-    let alloc = rt.alloc();
-    // The new leaf alone; the needs above it; an earlier sibling; below a leaf; at the end of the root.
-    let table = [
-        (vec![in alloc; 0]?, (0, 1), 4, (57, 5, 1)),
-        (vec![in alloc; 0]?, (0, 1), 9, (82, 5, 4)),
-        (vec![in alloc; 0]?, (1, 2), 9, (65, 5, 4)),
-        (vec![in alloc; 1]?, (0, 0), 9, (174, 5, 6)),
-        (Vec::new(alloc), (2, 2), 9, (111, 5, 6)),
-    ];
-    for (path, range, label, expected) in table {
-        let seen = edited::<Brand>(alloc, Blank::new(1), path, range, label);
-        assert_eq!(rt; seen.ok(), Some(expected));
-    }
-    Ok(())
+// ---- edits
+
+// A path, a range of the children of the node there, and the label of the one leaf in their place.
+type Change = (&'static [u32], (usize, usize), u32);
+
+fn one_leaf(alloc: Global, label: u32) -> Result<Vec<Shape<Dial>>, Memory> {
+    Ok(vec![in alloc; leaf(alloc, label)]?)
+}
+
+fn path_of(alloc: Global, steps: &[u32]) -> Result<Path, Memory> {
+    Ok(Path(steps.to_vec(alloc)?))
+}
+
+fn changed<L: Ledger>(
+    alloc: Global,
+    dial: &Dial,
+    tree: &Tree<Dial>,
+    change: &Change,
+    steps: &mut Steps<L>,
+) -> Result<Tree<Dial>, EngineError> {
+    let (path, (from, to), label) = *change;
+    let path = path_of(alloc, path)?;
+    let shapes = one_leaf(alloc, label)?;
+    splice(alloc, dial, tree, &path, from, to, shapes, 0, steps)
+}
+
+fn edited_by<P: Page>(alloc: Global, blank: Blank, change: &Change) -> Result<Seen, EngineError>
+    requires name { blank.name ≡ P.name }
+    requires parts { blank.parts ≡ P.parts }
+    requires some { 0 < blank.parts }
+{
+    let dial = Dial::new();
+    let mut steps = Steps::new(Tally::<P>::new(blank));
+    let tree = attribute(alloc, &dial, small(alloc)?, 0, &mut steps)?;
+    let made = dial.calls.get();
+    let new = changed(alloc, &dial, &tree, change, &mut steps)?;
+    Ok(dial.seen(&new, made))
+}
+
+fn edited(alloc: Global, change: &Change) -> Result<Seen, EngineError> {
+    edited_by::<Brand>(alloc, Blank::new(1), change)
+}
+
+// A change, and what is seen then: the new leaf alone; the needs above it; an earlier sibling; below a leaf; at
+// the end of the root.
+const CHANGES: &[(Change, Seen)] = &[
+    ((&[0], (0, 1), 4), (57, 5, 1)),
+    ((&[0], (0, 1), 9), (82, 5, 4)),
+    ((&[0], (1, 2), 9), (65, 5, 4)),
+    ((&[1], (0, 0), 9), (174, 5, 6)),
+    ((&[], (2, 2), 9), (111, 5, 6)),
+];
+
+// The number of the first row that is wrong.
+fn first_not_edited(alloc: Global) -> Option<usize> {
+    CHANGES
+        .iter()
+        .position(|(change, seen)| edited(alloc, change) != Ok(*seen))
 }
 
 #[test]
-fn paths_that_are_not_there_are_bad(rt: HostRuntime) -> Result<(), Fail> {
-    let alloc = rt.alloc();
-    assert!(rt; is_bad(alloc, Vec::new(alloc), (2, 3)));
-    assert!(rt; is_bad(alloc, Vec::new(alloc), (1, 0)));
-    assert!(rt; is_bad(alloc, vec![in alloc; 2]?, (0, 0)));
-    assert!(rt; is_bad(alloc, vec![in alloc; 0, 0, 0]?, (0, 0)));
-    Ok(())
+fn edits_make_anew_what_moved(rt: HostRuntime) {
+    assert_eq!(rt; first_not_edited(rt.alloc()), None);
+}
+
+const MISSES: &[Change] = &[
+    (&[], (2, 3), 9),
+    (&[], (1, 0), 9),
+    (&[2], (0, 0), 9),
+    (&[0, 0, 0], (0, 0), 9),
+];
+
+// The number of the first change that is one.
+fn first_not_bad(alloc: Global) -> Option<usize> {
+    MISSES.iter().position(|change| edited(alloc, change) != Err(EngineError::BadPath))
+}
+
+#[test]
+fn paths_that_are_not_there_are_bad(rt: HostRuntime) {
+    assert_eq!(rt; first_not_bad(rt.alloc()), None);
 }

@@ -4,59 +4,78 @@ ghost use Rattle.std.specs.Prelude.{◌≡◌, ◌<◌};
 use base_kit::{
     Bounds, Code, Copied, Fault, Memory, Names, Numbers, Path, Place, Steps, Stop, Tally, Text,
 };
-use std::alloc::{AllocError, AllocFailed};
+use std::alloc::{AllocError, AllocFailed, Global};
 use std::marker::Brand;
 use std::sync::ledger::{Blank, Ledger as Page};
 use std::test::Fail;
 
+// Each list is seen, copied, and given back.
+
+fn text_is_kept(alloc: Global, bytes: &[u8]) -> Result<bool, Memory> {
+    let text = Text::from(bytes.to_vec(alloc)?);
+    let copy = text.copy(alloc)?.into_vec();
+    let is_seen = text.as_bytes() == bytes;
+    Ok(is_seen && copy.as_slice() == bytes && text.into_vec().as_slice() == bytes)
+}
+
+fn numbers_are_kept(alloc: Global, members: &[u32]) -> Result<bool, Memory> {
+    let numbers = Numbers::from(members.to_vec(alloc)?);
+    let copy = numbers.copy(alloc)?.into_vec();
+    let are_seen = numbers.as_slice() == members;
+    Ok(are_seen && copy.as_slice() == members && numbers.into_vec().as_slice() == members)
+}
+
+fn bounds_are_kept(alloc: Global, members: &[i64]) -> Result<bool, Memory> {
+    let bounds = Bounds::from(members.to_vec(alloc)?);
+    let copy = bounds.copy(alloc)?.into_vec();
+    let are_seen = bounds.as_slice() == members;
+    Ok(are_seen && copy.as_slice() == members && bounds.into_vec().as_slice() == members)
+}
+
+fn path_is_copied(alloc: Global, steps: &[u32]) -> Result<bool, Memory> {
+    let path = Path(steps.to_vec(alloc)?);
+    Ok(path.copy(alloc)?.0.as_slice() == steps)
+}
+
 #[test]
 fn lists_are_copied_and_given_back(rt: HostRuntime) -> Result<(), Fail> {
     let alloc = rt.alloc();
-
-    let text = Text::from(b"ab".to_vec(alloc)?);
-    assert_eq!(rt; text.as_bytes(), b"ab".as_slice());
-    assert_eq!(rt; text.copy(alloc)?.into_vec().as_slice(), b"ab".as_slice());
-    assert_eq!(rt; text.into_vec().as_slice(), b"ab".as_slice());
-
-    let numbers = Numbers::from(vec![in alloc; 7, 0, 4_294_967_295]?);
-    assert_eq!(rt; numbers.as_slice(), [7, 0, 4_294_967_295].as_slice());
-    assert_eq!(rt;
-        numbers.copy(alloc)?.into_vec().as_slice(),
-        [7, 0, 4_294_967_295].as_slice()
-    );
-    assert_eq!(rt;
-        numbers.into_vec().as_slice(),
-        [7, 0, 4_294_967_295].as_slice()
-    );
-
-    let bounds = Bounds::from(vec![in alloc; -1, 5]?);
-    assert_eq!(rt; bounds.as_slice(), [-1, 5].as_slice());
-    assert_eq!(rt;
-        bounds.copy(alloc)?.into_vec().as_slice(),
-        [-1, 5].as_slice()
-    );
-    assert_eq!(rt; bounds.into_vec().as_slice(), [-1, 5].as_slice());
-
-    let path = Path(vec![in alloc; 3, 1]?);
-    assert_eq!(rt; path.copy(alloc)?.0.as_slice(), [3, 1].as_slice());
+    assert!(rt; text_is_kept(alloc, b"ab")?);
+    assert!(rt; numbers_are_kept(alloc, &[7, 0, 4_294_967_295])?);
+    assert!(rt; bounds_are_kept(alloc, &[-1, 5])?);
+    assert!(rt; path_is_copied(alloc, &[3, 1])?);
     Ok(())
+}
+
+fn two_names(alloc: Global) -> Result<Names, Memory> {
+    let mut names = Names::new(alloc);
+    names.push(Text::from(b"one".to_vec(alloc)?))?;
+    names.push(Text::from(b"two".to_vec(alloc)?))?;
+    Ok(names)
+}
+
+fn is_text(text: &Text, bytes: &[u8]) -> bool {
+    text.as_bytes() == bytes
+}
+
+fn are_two(texts: &[Text]) -> bool {
+    match texts {
+        [first, second] => is_text(first, b"one") && is_text(second, b"two"),
+        _ => false,
+    }
+}
+
+fn names_are_kept(alloc: Global) -> Result<bool, Memory> {
+    let names = two_names(alloc)?;
+    let copy = names.copy(alloc)?.into_vec();
+    let are_seen = are_two(names.as_slice());
+    let again = Names::from(names.into_vec()).into_vec();
+    Ok(are_seen && are_two(copy.as_slice()) && are_two(again.as_slice()))
 }
 
 #[test]
 fn names_are_copied_and_given_back(rt: HostRuntime) -> Result<(), Fail> {
-    let alloc = rt.alloc();
-    let mut names = Names::new(alloc);
-    names.push(Text::from(b"one".to_vec(alloc)?))?;
-    names.push(Text::from(b"two".to_vec(alloc)?))?;
-    let same = names.copy(alloc)?;
-    assert_eq!(rt; names.as_slice().len(), 2);
-    let again = Names::from(names.into_vec());
-    for list in [again, same] {
-        let texts = list.into_vec();
-        assert_eq!(rt; texts.len(), 2);
-        assert_eq!(rt; texts[0].as_bytes(), b"one".as_slice());
-        assert_eq!(rt; texts[1].as_bytes(), b"two".as_slice());
-    }
+    assert!(rt; names_are_kept(rt.alloc())?);
     Ok(())
 }
 
@@ -68,26 +87,41 @@ fn is_at(place: &Place, path: &[u32]) -> bool {
     matches!(place, Place::At(p) if p.0.as_slice() == path)
 }
 
-#[test]
-fn faults_are_copied(rt: HostRuntime) -> Result<(), Fail> {
-    let alloc = rt.alloc();
+fn line_is_copied(alloc: Global) -> Result<bool, Memory> {
     let line = Place::Line(2, 9);
-    assert!(rt; is_line(&line.copy(alloc)?, 2, 9));
-    let fault = Fault {
+    Ok(is_line(&line.copy(alloc)?, 2, 9))
+}
+
+fn fault(alloc: Global) -> Result<Fault, Memory> {
+    Ok(Fault {
         code: Code::F23,
         place: Place::At(Path(vec![in alloc; 4, 0]?)),
         count: 3,
-    };
-    let same = fault.copy(alloc)?;
-    assert_eq!(rt; (same.code, same.count), (Code::F23, 3));
-    assert!(rt; is_at(&same.place, &[4, 0]));
-    match Stop::Fault(fault).copy(alloc)? {
-        Stop::Fault(again) => {
-            assert_eq!(rt; (again.code, again.count), (Code::F23, 3));
-            assert!(rt; is_at(&again.place, &[4, 0]));
-        }
-        Stop::Memory => panic!(rt; "the fault is lost"),
-    }
+    })
+}
+
+fn is_the_fault(fault: &Fault) -> bool {
+    fault.code == Code::F23 && fault.count == 3 && is_at(&fault.place, &[4, 0])
+}
+
+fn fault_is_copied(alloc: Global) -> Result<bool, Memory> {
+    Ok(is_the_fault(&fault(alloc)?.copy(alloc)?))
+}
+
+fn stop_is_copied(alloc: Global) -> Result<bool, Memory> {
+    let stop = Stop::Fault(fault(alloc)?);
+    Ok(match stop.copy(alloc)? {
+        Stop::Fault(again) => is_the_fault(&again),
+        Stop::Memory => false,
+    })
+}
+
+#[test]
+fn faults_are_copied(rt: HostRuntime) -> Result<(), Fail> {
+    let alloc = rt.alloc();
+    assert!(rt; line_is_copied(alloc)?);
+    assert!(rt; fault_is_copied(alloc)?);
+    assert!(rt; stop_is_copied(alloc)?);
     assert!(rt; matches!(Stop::Memory.copy(alloc)?, Stop::Memory));
     Ok(())
 }

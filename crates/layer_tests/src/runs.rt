@@ -87,269 +87,347 @@ fn run(alloc: Global, words: &str, file: &[u8], failing: &Failing) -> Result<Out
     run_over::<Brand>(alloc, Blank::new(1), owned.as_slice(), file, failing)
 }
 
+// Whether the run writes this, and ends with this status.
+fn gives(got: &Outcome, text: &str, status: u8) -> bool {
+    got.text.as_slice() == text.as_bytes() && got.status == status
+}
+
+// ---- words
+
+const OTHER_WORDS: &[&str] = &[
+    "",
+    "check",
+    "foo",
+    "help",
+    "--help",
+    "-h",
+    "check -x",
+    "check a a",
+    "check a b",
+    "check -- a",
+    "check  ",
+    "CHECK a",
+    "print a",
+    "edit a --script a",
+    "grow 0",
+    "grow 2",
+];
+
+fn is_usage(alloc: Global, words: &str) -> Result<bool, Memory> {
+    let got = run(alloc, words, b"", &NOTHING)?;
+    Ok(gives(&got, USAGE, 2) && got.calls == 0)
+}
+
+// The number of the first row that is wrong.
+fn first_other_than_usage(alloc: Global) -> Option<usize> {
+    OTHER_WORDS
+        .iter()
+        .position(|words| is_usage(alloc, words) != Ok(true))
+}
+
 #[test]
-fn words_outside_the_forms_are_usage(rt: HostRuntime) -> Result<(), Fail> {
-    for words in [
+fn words_outside_the_forms_are_usage(rt: HostRuntime) {
+    assert_eq!(rt; first_other_than_usage(rt.alloc()), None);
+}
+
+// ---- files
+
+// A file, and its report.
+const FILES: &[(&str, &str)] = &[
+    ("", ""),
+    ("\t\r\n -- a comment\n--|\n", ""),
+    (SET, SET_REPORT),
+    // Without a where block the goal is true.
+    (
+        "procedure SET (X, Y : in out INTEGER)\n\nis begin X := Y; end SET;\n",
+        "unit SET incomplete\n  entry.1 open\n    var X : INTEGER\n    var Y : INTEGER\n    goal true\n",
+    ),
+    // An annotation over many lines, with comments between, in mixed case, in lines that end by CR LF.
+    (
+        "Procedure Set(x:In Out Integer;Y:in out integer)--|Where\r\n--| in y = -- so\r\n-- and\r\n--| 0_0_3;out x=3;--|no\r\n--|out Y = in Y\r\n--|;end where;\r\nIs Begin x:=y;End;",
+        SET_REPORT,
+    ),
+    // Assignments go in order; a conjunction associates to the left.
+    (
+        "procedure P (X, Y : in out INTEGER)\n--| where out X = in Y; out Y = in Y; out in X = 2147483647; end where;\nis begin null; X := Y; Y := X; end;",
+        "unit P incomplete\n  entry.1 open\n    var X : INTEGER\n    var Y : INTEGER\n    goal ((Y = Y) and (Y = Y)) and (X = 2147483647)\n",
+    ),
+    // In Ada text `where` is an identifier; an in clause speaks of the entry.
+    (
+        "procedure P (WHERE, X : in out INTEGER)\n--| where in X = X; end where;\nis begin WHERE := 007; X := WHERE; end P;",
+        "unit P incomplete\n  entry.1 open\n    var WHERE : INTEGER\n    var X : INTEGER\n    hyp 1 : X = X\n    goal true\n",
+    ),
+];
+
+fn is_reported(alloc: Global, file: &str, text: &str) -> Result<bool, Memory> {
+    let got = run(alloc, "check a", file.as_bytes(), &NOTHING)?;
+    Ok(gives(&got, text, 0) && got.calls == 1)
+}
+
+// The number of the first row that is wrong.
+fn first_misreported(alloc: Global) -> Option<usize> {
+    FILES
+        .iter()
+        .position(|(file, text)| is_reported(alloc, file, text) != Ok(true))
+}
+
+#[test]
+fn files_are_reported(rt: HostRuntime) {
+    assert_eq!(rt; first_misreported(rt.alloc()), None);
+}
+
+const OTHER_FILES: &[&str] = &[
+    "procedure SET (X, Y : in out INTEGER)\n--| where in Y = 3; out X = 3; out Y = in Y; end where;\nis begin X := Z; end SET;\n",
+    "procedure SET (X, Y : in out INTEGER)\n--| where in Y = 3; out X = 3; out Y = in Y; end where;\nis begin X := Y + 1; end SET;\n",
+    "procedure SET (X, Y : in out INTEGER)\n--| where in Y = 3; out X = 3; out Y = in Y; end where;\nis begin",
+    "procedure P (X, X : in out INTEGER) is begin null; end;",
+    "procedure P (X : in out INTEGER; x : in out INTEGER) is begin null; end;",
+    "procedure P (INTEGER : in out INTEGER) is begin null; end;",
+    "procedure P (X : in out NATURAL) is begin null; end;",
+    "procedure P (X : in INTEGER) is begin null; end;",
+    "procedure P (X : in out INTEGER) is begin Y := 1; end;",
+    "procedure P (X : in out INTEGER) is begin end;",
+    "procedure P (X : in out INTEGER) is begin null; end Q;",
+    "procedure P (X : in out INTEGER) is begin null; end; null",
+    "procedure P (X : in out INTEGER) is begin X := 2147483648; end;",
+    "procedure P (X : in out INTEGER) is begin X := 0000000000000000001; end;",
+    "procedure P (X : in out INTEGER) is begin X := 1__0; end;",
+    "procedure P (X : in out INTEGER) is begin X := 1_; end;",
+    "procedure P (X : in out INTEGER) is begin X : = 1; end;",
+    "procedure P (X_ : in out INTEGER) is begin null; end;",
+    "procedure P (_X : in out INTEGER) is begin null; end;",
+    "procedure P (LOOP : in out INTEGER) is begin null; end;",
+    "procedure P () is begin null; end;",
+    "procedure P (X : in out INTEGER) where end where; is begin null; end;",
+    "procedure P (X : in out INTEGER)\n--| is begin null; end;",
+    "procedure P (X : in out INTEGER)\n--| where in in X = 1; end where;\nis begin null; end;",
+    "procedure P (X : in out INTEGER)\n--| where out X == 1; end where;\nis begin null; end;",
+    "procedure P (X : in out INTEGER)\n--| where out X = Y; end where;\nis begin null; end;",
+    "procedure P (X : in out INTEGER)\n--| where out X = 1; end;\nis begin null; end;",
+    "procedure P (X : in out INTEGER) is begin null; end;\n--| where end where;",
+    "\u{1}",
+    "#",
+    "-",
+];
+
+fn is_fault(alloc: Global, file: &str) -> Result<bool, Memory> {
+    let got = run(alloc, "check a", file.as_bytes(), &NOTHING)?;
+    Ok(gives(&got, NOT_OF_THE_FORM, 3))
+}
+
+// The number of the first row that is wrong.
+fn first_other_than_fault(alloc: Global) -> Option<usize> {
+    OTHER_FILES
+        .iter()
+        .position(|file| is_fault(alloc, file) != Ok(true))
+}
+
+#[test]
+fn other_files_are_faults(rt: HostRuntime) {
+    assert_eq!(rt; first_other_than_fault(rt.alloc()), None);
+}
+
+// ---- failures
+
+// The words, the file, what fails, what is written, and the status.
+type Cut = (&'static str, &'static str, Failing, &'static str, u8);
+
+const CUTS: &[Cut] = &[
+    ("check b", SET, NOTHING, "absent b\n", 4),
+    (
+        "check a",
+        SET,
+        Failing { call: 1, ..NOTHING },
+        "failed a\n",
+        4,
+    ),
+    (
+        "check a",
+        SET,
+        Failing { most: 1, ..NOTHING },
+        SET_REPORT,
+        0,
+    ),
+    (
+        "check a",
+        SET,
+        Failing {
+            room: 4096,
+            most: 8,
+            ..NOTHING
+        },
+        SET_REPORT,
+        0,
+    ),
+    (
+        "check a",
+        SET,
+        Failing {
+            room: 4096,
+            write: 1,
+            most: 8,
+            ..NOTHING
+        },
         "",
-        "check",
-        "foo",
-        "help",
-        "--help",
-        "-h",
-        "check -x",
-        "check a a",
-        "check a b",
-        "check -- a",
-        "check  ",
-        "CHECK a",
-        "print a",
-        "edit a --script a",
-        "grow 0",
-        "grow 2",
-    ] {
-        let got = run(rt.alloc(), words, b"", &NOTHING)?;
-        assert_eq!(rt; got.text.as_slice(), USAGE.as_bytes(), "{words}");
-        assert_eq!(rt; got.status, 2, "{words}");
-        assert_eq!(rt; got.calls, 0, "{words}");
-    }
-    Ok(())
+        5,
+    ),
+    (
+        "check a",
+        SET,
+        Failing {
+            room: 4096,
+            write: 2,
+            most: 8,
+            ..NOTHING
+        },
+        "unit SET",
+        5,
+    ),
+    (
+        "check a",
+        SET,
+        Failing {
+            room: 10,
+            ..NOTHING
+        },
+        "unit SET i",
+        5,
+    ),
+    ("check a", SET, Failing { room: 0, ..NOTHING }, "", 5),
+    ("check a", "", Failing { room: 0, ..NOTHING }, "", 0),
+    (
+        "check b",
+        SET,
+        Failing {
+            write: 1,
+            ..NOTHING
+        },
+        "",
+        5,
+    ),
+    (
+        "check b",
+        SET,
+        Failing {
+            write: 2,
+            ..NOTHING
+        },
+        "absent ",
+        5,
+    ),
+    ("help", SET, Failing { room: 6, ..NOTHING }, "usage:", 5),
+];
+
+// (Writes fail exactly where the status says so.)
+fn is_cut(alloc: Global, row: &Cut) -> Result<bool, Memory> {
+    let (words, file, failing, text, status) = *row;
+    let got = run(alloc, words, file.as_bytes(), &failing)?;
+    Ok(gives(&got, text, status) && (got.faults > 0) == (status == 5))
+}
+
+// The number of the first row that is wrong.
+fn first_not_cut(alloc: Global) -> Option<usize> {
+    CUTS.iter().position(|row| is_cut(alloc, row) != Ok(true))
 }
 
 #[test]
-fn files_are_reported(rt: HostRuntime) -> Result<(), Fail> {
-    for (file, text, status) in [
-        ("", "", 0),
-        ("\t\r\n -- a comment\n--|\n", "", 0),
-        (SET, SET_REPORT, 0),
-        // Without a where block the goal is true.
-        (
-            "procedure SET (X, Y : in out INTEGER)\n\nis begin X := Y; end SET;\n",
-            "unit SET incomplete\n  entry.1 open\n    var X : INTEGER\n    var Y : INTEGER\n    goal true\n",
-            0,
-        ),
-        // An annotation over many lines, with comments between, in mixed case, in lines that end by CR LF.
-        (
-            "Procedure Set(x:In Out Integer;Y:in out integer)--|Where\r\n--| in y = -- so\r\n-- and\r\n--| 0_0_3;out x=3;--|no\r\n--|out Y = in Y\r\n--|;end where;\r\nIs Begin x:=y;End;",
-            SET_REPORT,
-            0,
-        ),
-        // Assignments go in order; a conjunction associates to the left.
-        (
-            "procedure P (X, Y : in out INTEGER)\n--| where out X = in Y; out Y = in Y; out in X = 2147483647; end where;\nis begin null; X := Y; Y := X; end;",
-            "unit P incomplete\n  entry.1 open\n    var X : INTEGER\n    var Y : INTEGER\n    goal ((Y = Y) and (Y = Y)) and (X = 2147483647)\n",
-            0,
-        ),
-        // In Ada text `where` is an identifier; an in clause speaks of the entry.
-        (
-            "procedure P (WHERE, X : in out INTEGER)\n--| where in X = X; end where;\nis begin WHERE := 007; X := WHERE; end P;",
-            "unit P incomplete\n  entry.1 open\n    var WHERE : INTEGER\n    var X : INTEGER\n    hyp 1 : X = X\n    goal true\n",
-            0,
-        ),
-    ] {
-        let got = run(rt.alloc(), "check a", file.as_bytes(), &NOTHING)?;
-        assert_eq!(rt; got.text.as_slice(), text.as_bytes(), "{file}");
-        assert_eq!(rt; got.status, status, "{file}");
-        assert_eq!(rt; got.calls, 1, "{file}");
-    }
-    Ok(())
+fn failures_cut_the_output_short(rt: HostRuntime) {
+    assert_eq!(rt; first_not_cut(rt.alloc()), None);
 }
 
-#[test]
-fn other_files_are_faults(rt: HostRuntime) -> Result<(), Fail> {
-    for file in [
-        "procedure SET (X, Y : in out INTEGER)\n--| where in Y = 3; out X = 3; out Y = in Y; end where;\nis begin X := Z; end SET;\n",
-        "procedure SET (X, Y : in out INTEGER)\n--| where in Y = 3; out X = 3; out Y = in Y; end where;\nis begin X := Y + 1; end SET;\n",
-        "procedure SET (X, Y : in out INTEGER)\n--| where in Y = 3; out X = 3; out Y = in Y; end where;\nis begin",
-        "procedure P (X, X : in out INTEGER) is begin null; end;",
-        "procedure P (X : in out INTEGER; x : in out INTEGER) is begin null; end;",
-        "procedure P (INTEGER : in out INTEGER) is begin null; end;",
-        "procedure P (X : in out NATURAL) is begin null; end;",
-        "procedure P (X : in INTEGER) is begin null; end;",
-        "procedure P (X : in out INTEGER) is begin Y := 1; end;",
-        "procedure P (X : in out INTEGER) is begin end;",
-        "procedure P (X : in out INTEGER) is begin null; end Q;",
-        "procedure P (X : in out INTEGER) is begin null; end; null",
-        "procedure P (X : in out INTEGER) is begin X := 2147483648; end;",
-        "procedure P (X : in out INTEGER) is begin X := 0000000000000000001; end;",
-        "procedure P (X : in out INTEGER) is begin X := 1__0; end;",
-        "procedure P (X : in out INTEGER) is begin X := 1_; end;",
-        "procedure P (X : in out INTEGER) is begin X : = 1; end;",
-        "procedure P (X_ : in out INTEGER) is begin null; end;",
-        "procedure P (_X : in out INTEGER) is begin null; end;",
-        "procedure P (LOOP : in out INTEGER) is begin null; end;",
-        "procedure P () is begin null; end;",
-        "procedure P (X : in out INTEGER) where end where; is begin null; end;",
-        "procedure P (X : in out INTEGER)\n--| is begin null; end;",
-        "procedure P (X : in out INTEGER)\n--| where in in X = 1; end where;\nis begin null; end;",
-        "procedure P (X : in out INTEGER)\n--| where out X == 1; end where;\nis begin null; end;",
-        "procedure P (X : in out INTEGER)\n--| where out X = Y; end where;\nis begin null; end;",
-        "procedure P (X : in out INTEGER)\n--| where out X = 1; end;\nis begin null; end;",
-        "procedure P (X : in out INTEGER) is begin null; end;\n--| where end where;",
-        "\u{1}",
-        "#",
-        "-",
-    ] {
-        let got = run(rt.alloc(), "check a", file.as_bytes(), &NOTHING)?;
-        assert_eq!(rt; got.text.as_slice(), NOT_OF_THE_FORM.as_bytes(), "{file}");
-        assert_eq!(rt; got.status, 3, "{file}");
-    }
-    Ok(())
-}
+// ---- limits
 
-#[test]
-fn failures_cut_the_output_short(rt: HostRuntime) -> Result<(), Fail> {
-    for (words, file, failing, text, status) in [
-        ("check b", SET, NOTHING, "absent b\n", 4),
-        (
-            "check a",
-            SET,
-            Failing { call: 1, ..NOTHING },
-            "failed a\n",
-            4,
-        ),
-        (
-            "check a",
-            SET,
-            Failing { most: 1, ..NOTHING },
-            SET_REPORT,
-            0,
-        ),
-        (
-            "check a",
-            SET,
-            Failing {
-                room: 4096,
-                most: 8,
-                ..NOTHING
-            },
-            SET_REPORT,
-            0,
-        ),
-        (
-            "check a",
-            SET,
-            Failing {
-                room: 4096,
-                write: 1,
-                most: 8,
-                ..NOTHING
-            },
-            "",
-            5,
-        ),
-        (
-            "check a",
-            SET,
-            Failing {
-                room: 4096,
-                write: 2,
-                most: 8,
-                ..NOTHING
-            },
-            "unit SET",
-            5,
-        ),
-        (
-            "check a",
-            SET,
-            Failing {
-                room: 10,
-                ..NOTHING
-            },
-            "unit SET i",
-            5,
-        ),
-        ("check a", SET, Failing { room: 0, ..NOTHING }, "", 5),
-        ("check a", "", Failing { room: 0, ..NOTHING }, "", 0),
-        (
-            "check b",
-            SET,
-            Failing {
-                write: 1,
-                ..NOTHING
-            },
-            "",
-            5,
-        ),
-        (
-            "check b",
-            SET,
-            Failing {
-                write: 2,
-                ..NOTHING
-            },
-            "absent ",
-            5,
-        ),
-        ("help", SET, Failing { room: 6, ..NOTHING }, "usage:", 5),
-    ] {
-        let got = run(rt.alloc(), words, file.as_bytes(), &failing)?;
-        assert_eq!(rt; got.text.as_slice(), text.as_bytes(), "{words}: {text}");
-        assert_eq!(rt; got.status, status, "{words}: {text}");
-        assert_eq!(rt; got.faults > 0, status == 5, "{words}: {text}");
-    }
-    Ok(())
+fn blank_file_gives(alloc: Global, length: usize, text: &str, status: u8) -> Result<bool, Memory> {
+    let file = vec![in alloc; b' '; length]?;
+    let got = run(alloc, "check a", file.as_slice(), &NOTHING)?;
+    Ok(gives(&got, text, status))
 }
 
 #[test]
 fn a_file_has_its_limit(rt: HostRuntime) -> Result<(), Fail> {
-    let mut file = vec![in rt.alloc(); b' '; 4_194_304]?;
-    let got = run(rt.alloc(), "check a", file.as_slice(), &NOTHING)?;
-    assert_eq!(rt; (got.text.len(), got.status), (0, 0));
-    file.push(b' ')?;
-    let got = run(rt.alloc(), "check a", file.as_slice(), &NOTHING)?;
-    assert_eq!(rt; got.text.as_slice(), b"too long a\n".as_slice());
-    assert_eq!(rt; got.status, 3);
+    let alloc = rt.alloc();
+    assert!(rt; blank_file_gives(alloc, 4_194_304, "", 0)?);
+    assert!(rt; blank_file_gives(alloc, 4_194_305, "too long a\n", 3)?);
+    Ok(())
+}
+
+fn add_formals(alloc: Global, text: &mut String, formals: u32) -> Result<(), Memory> {
+    for i in 1..formals {
+        text.push_str(format!(in alloc; ", F{i}")?.as_str())?;
+    }
+    Ok(())
+}
+
+fn add_clauses(alloc: Global, text: &mut String, clauses: u32) -> Result<(), Memory> {
+    for i in 0..clauses {
+        text.push_str(format!(in alloc; "\n--|    out F0 = {i};")?.as_str())?;
+    }
+    Ok(())
+}
+
+fn add_statements(alloc: Global, text: &mut String, statements: u32) -> Result<(), Memory> {
+    for i in 0..statements {
+        text.push_str(format!(in alloc; " F0 := {i};")?.as_str())?;
+    }
     Ok(())
 }
 
 // A procedure with so many formals, clauses and statements.
 fn large(alloc: Global, formals: u32, clauses: u32, statements: u32) -> Result<String, Memory> {
     let mut text = String::from_str(alloc, "procedure P (F0")?;
-    for i in 1..formals {
-        text.push_str(format!(in alloc; ", F{i}")?.as_str())?;
-    }
+    add_formals(alloc, &mut text, formals)?;
     text.push_str(" : in out INTEGER)\n--| where")?;
-    for i in 0..clauses {
-        text.push_str(format!(in alloc; "\n--|    out F0 = {i};")?.as_str())?;
-    }
+    add_clauses(alloc, &mut text, clauses)?;
     text.push_str("\n--| end where;\nis begin")?;
-    for i in 0..statements {
-        text.push_str(format!(in alloc; " F0 := {i};")?.as_str())?;
-    }
+    add_statements(alloc, &mut text, statements)?;
     text.push_str(" end P;")?;
     Ok(text)
 }
 
+// The status of a run over such a procedure.
+fn large_status(alloc: Global, formals: u32, clauses: u32, statements: u32) -> Result<u8, Memory> {
+    let file = large(alloc, formals, clauses, statements)?;
+    Ok(run(alloc, "check a", file.as_bytes(), &NOTHING)?.status)
+}
+
+// Whether a report of the largest procedure ends with this.
+fn largest_ends_with(alloc: Global, text: &str) -> Result<bool, Memory> {
+    let file = large(alloc, 64, 64, 1000)?;
+    let got = run(alloc, "check a", file.as_bytes(), &NOTHING)?;
+    Ok(got.text.ends_with(text.as_bytes()))
+}
+
 #[test]
 fn counts_have_their_limits(rt: HostRuntime) -> Result<(), Fail> {
-    for (formals, clauses, statements, status) in [
-        (64, 64, 1000, 0),
-        (65, 64, 1000, 3),
-        (64, 65, 1000, 3),
-        (64, 64, 1001, 3),
-        (1, 0, 1, 0),
-    ] {
-        let file = large(rt.alloc(), formals, clauses, statements)?;
-        let got = run(rt.alloc(), "check a", file.as_bytes(), &NOTHING)?;
-        assert_eq!(rt; got.status, status, "{formals} {clauses} {statements}");
-    }
-    let file = large(rt.alloc(), 64, 64, 1000)?;
-    let got = run(rt.alloc(), "check a", file.as_bytes(), &NOTHING)?;
-    assert!(rt; got.text.ends_with(b") and (999 = 63)\n"));
+    let alloc = rt.alloc();
+    assert_eq!(rt; large_status(alloc, 64, 64, 1000)?, 0);
+    assert_eq!(rt; large_status(alloc, 65, 64, 1000)?, 3);
+    assert_eq!(rt; large_status(alloc, 64, 65, 1000)?, 3);
+    assert_eq!(rt; large_status(alloc, 64, 64, 1001)?, 3);
+    assert_eq!(rt; large_status(alloc, 1, 0, 1)?, 0);
+    assert!(rt; largest_ends_with(alloc, ") and (999 = 63)\n")?);
     Ok(())
+}
+
+// A procedure whose formal has so long a name.
+fn named(alloc: Global, length: u32) -> Result<String, Memory> {
+    let mut file = String::from_str(alloc, "procedure P (")?;
+    for _ in 0..length {
+        file.push_str("A")?;
+    }
+    file.push_str(" : in out INTEGER) is begin null; end;")?;
+    Ok(file)
+}
+
+fn named_status(alloc: Global, length: u32) -> Result<u8, Memory> {
+    let file = named(alloc, length)?;
+    Ok(run(alloc, "check a", file.as_bytes(), &NOTHING)?.status)
 }
 
 #[test]
 fn identifiers_have_their_limit(rt: HostRuntime) -> Result<(), Fail> {
-    for (length, status) in [(120, 0), (121, 3)] {
-        let mut file = String::from_str(rt.alloc(), "procedure P (")?;
-        for _ in 0..length {
-            file.push_str("A")?;
-        }
-        file.push_str(" : in out INTEGER) is begin null; end;")?;
-        let got = run(rt.alloc(), "check a", file.as_bytes(), &NOTHING)?;
-        assert_eq!(rt; got.status, status);
-    }
+    let alloc = rt.alloc();
+    assert_eq!(rt; named_status(alloc, 120)?, 0);
+    assert_eq!(rt; named_status(alloc, 121)?, 3);
     Ok(())
 }

@@ -5,7 +5,7 @@ use std::alloc::Global;
 use std::test::Fail;
 
 // What a script is: so many commands, the last of them in this line; or its error.
-#[derive(Clone, Copy, Debug, PartialEq, Eq)]
+#[derive(Clone, Copy, PartialEq, Eq)]
 enum Outcome {
     Commands(usize, u32),
     BadLine(u32),
@@ -25,7 +25,7 @@ fn outcome_of(alloc: Global, script: &[u8]) -> Outcome {
     }
 }
 
-const LINES: [(&[u8], Outcome); 39] = [
+const LINES: &[(&[u8], Outcome)] = &[
     // no line, blank lines, ends of lines
     (b"", Outcome::Commands(0, 0)),
     (b"\n", Outcome::Commands(0, 0)),
@@ -110,7 +110,7 @@ const LINES: [(&[u8], Outcome); 39] = [
 ];
 
 // What stands in a path, and whether the path is one.
-const STEPS: [(&[u8], bool); 20] = [
+const STEPS: &[(&[u8], bool)] = &[
     (b"", true),
     (b"0", true),
     (b" 4294967295 , 10 ", true),
@@ -198,80 +198,100 @@ fn edits_outcome(alloc: Global, count: u32, last: &[u8]) -> Result<Outcome, Memo
 
 const DELETE: &[u8] = b"{\"op\":\"delete\",\"at\":[]}";
 
-#[test]
-fn scripts_are_read_line_by_line(rt: HostRuntime) -> Result<(), Fail> {
-    for (number, (script, wanted)) in LINES.iter().enumerate() {
-        assert_eq!(rt; outcome_of(rt.alloc(), script), *wanted, "row {number}");
-    }
-    Ok(())
+// The number of the first row that is wrong.
+fn first_misread(alloc: Global) -> Option<usize> {
+    LINES
+        .iter()
+        .position(|(script, wanted)| outcome_of(alloc, script) != *wanted)
 }
 
 #[test]
-fn whole_numbers_are_digits_alone(rt: HostRuntime) -> Result<(), Fail> {
-    for (number, (steps, good)) in STEPS.iter().enumerate() {
-        let wanted = if *good {
-            Outcome::Commands(1, 1)
-        } else {
-            Outcome::BadLine(1)
-        };
-        assert_eq!(rt; path_outcome(rt.alloc(), steps, 1)?, wanted, "row {number}");
-    }
-    Ok(())
+fn scripts_are_read_line_by_line(rt: HostRuntime) {
+    assert_eq!(rt; first_misread(rt.alloc()), None);
 }
+
+// Whether a path of so many of these steps is one exactly where this says so.
+fn path_is(alloc: Global, steps: &[u8], count: u32, is_path: bool) -> Result<bool, Memory> {
+    let wanted = if is_path {
+        Outcome::Commands(1, 1)
+    } else {
+        Outcome::BadLine(1)
+    };
+    Ok(path_outcome(alloc, steps, count)? == wanted)
+}
+
+// The number of the first row that is wrong.
+fn first_wrong_path(alloc: Global) -> Option<usize> {
+    STEPS.iter().position(|(steps, is_path)| path_is(alloc, steps, 1, *is_path) != Ok(true))
+}
+
+#[test]
+fn whole_numbers_are_digits_alone(rt: HostRuntime) {
+    assert_eq!(rt; first_wrong_path(rt.alloc()), None);
+}
+
+// So many members in a batch.
+fn batch_is(alloc: Global, member: &[u8], count: u32, wanted: Outcome) -> Result<bool, Memory> {
+    Ok(batch_outcome(alloc, member, count)? == wanted)
+}
+
+const SAVE: &[u8] = b"{\"op\":\"save\"}";
+
+const BATCH: &[u8] = b"{\"op\":\"batch\",\"edits\":[{\"op\":\"delete\",\"at\":[]}]}";
 
 #[test]
 fn paths_and_batches_have_limits(rt: HostRuntime) -> Result<(), Fail> {
     let alloc = rt.alloc();
-    let save = b"{\"op\":\"save\"}";
-    let batch = b"{\"op\":\"batch\",\"edits\":[{\"op\":\"delete\",\"at\":[]}]}";
-    assert_eq!(rt; path_outcome(alloc, b"7", 256)?, Outcome::Commands(1, 1));
-    assert_eq!(rt; path_outcome(alloc, b"7", 257)?, Outcome::BadLine(1));
-    assert_eq!(rt; batch_outcome(alloc, DELETE, 0)?, Outcome::BadLine(1));
-    assert_eq!(rt; batch_outcome(alloc, DELETE, 1)?, Outcome::Commands(1, 1));
-    assert_eq!(rt;
-        batch_outcome(alloc, DELETE, 1000)?,
-        Outcome::Commands(1, 1)
-    );
-    assert_eq!(rt; batch_outcome(alloc, DELETE, 1001)?, Outcome::BadLine(1));
-    assert_eq!(rt; batch_outcome(alloc, save, 1)?, Outcome::BadLine(1));
-    assert_eq!(rt; batch_outcome(alloc, batch, 1)?, Outcome::BadLine(1));
+    assert!(rt; path_is(alloc, b"7", 256, true)?);
+    assert!(rt; path_is(alloc, b"7", 257, false)?);
+    assert!(rt; batch_is(alloc, DELETE, 0, Outcome::BadLine(1))?);
+    assert!(rt; batch_is(alloc, DELETE, 1, Outcome::Commands(1, 1))?);
+    assert!(rt; batch_is(alloc, DELETE, 1000, Outcome::Commands(1, 1))?);
+    assert!(rt; batch_is(alloc, DELETE, 1001, Outcome::BadLine(1))?);
+    assert!(rt; batch_is(alloc, SAVE, 1, Outcome::BadLine(1))?);
+    assert!(rt; batch_is(alloc, BATCH, 1, Outcome::BadLine(1))?);
     Ok(())
+}
+
+fn edits_are(alloc: Global, count: u32, last: &[u8], wanted: Outcome) -> Result<bool, Memory> {
+    Ok(edits_outcome(alloc, count, last)? == wanted)
+}
+
+fn batches_are(alloc: Global, count: u32, last: &[u8], wanted: Outcome) -> Result<bool, Memory> {
+    Ok(batches_outcome(alloc, count, last)? == wanted)
 }
 
 #[test]
 fn scripts_have_a_limit_of_edits(rt: HostRuntime) -> Result<(), Fail> {
     let alloc = rt.alloc();
-    let save = b"{\"op\":\"save\"}";
-    assert_eq!(rt;
-        edits_outcome(alloc, 10_000, save)?,
-        Outcome::Commands(10_001, 10_001)
-    );
-    assert_eq!(rt;
-        edits_outcome(alloc, 10_001, b"")?,
-        Outcome::TooMany(10_001)
-    );
-    assert_eq!(rt;
-        edits_outcome(alloc, 10_001, b"{}")?,
-        Outcome::BadLine(10_002)
-    );
-    assert_eq!(rt; batches_outcome(alloc, 10, b"")?, Outcome::Commands(10, 10));
-    assert_eq!(rt;
-        batches_outcome(alloc, 10, DELETE)?,
-        Outcome::TooMany(10_001)
-    );
+    assert!(rt; edits_are(alloc, 10_000, SAVE, Outcome::Commands(10_001, 10_001))?);
+    assert!(rt; edits_are(alloc, 10_001, b"", Outcome::TooMany(10_001))?);
+    assert!(rt; edits_are(alloc, 10_001, b"{}", Outcome::BadLine(10_002))?);
+    assert!(rt; batches_are(alloc, 10, b"", Outcome::Commands(10, 10))?);
+    assert!(rt; batches_are(alloc, 10, DELETE, Outcome::TooMany(10_001))?);
+    Ok(())
+}
+
+fn add_path(alloc: Global, line: &mut String, path: &Path) -> Result<(), Memory> {
+    for step in &path.0 {
+        line.push_str(format!(in alloc; " {step}")?.as_str())?;
+    }
+    Ok(())
+}
+
+fn add_bytes(line: &mut String, text: &[u8]) -> Result<(), Memory> {
+    for byte in text {
+        line.push(char::from(*byte))?;
+    }
     Ok(())
 }
 
 // A word, the numbers of a path, and a text, one after another.
 fn shown(alloc: Global, word: &str, path: &Path, text: &[u8]) -> Result<String, Memory> {
     let mut line = String::from_str(alloc, word)?;
-    for step in &path.0 {
-        line.push_str(format!(in alloc; " {step}")?.as_str())?;
-    }
+    add_path(alloc, &mut line, path)?;
     line.push_str(" ")?;
-    for byte in text {
-        line.push(char::from(*byte))?;
-    }
+    add_bytes(&mut line, text)?;
     Ok(line)
 }
 
@@ -305,20 +325,27 @@ fn command_shown(alloc: Global, line: &Line) -> Result<String, Memory> {
     }
 }
 
-// The copy of the first command of a script, as a text; nothing where there is none.
-fn first_shown(alloc: Global, script: &[u8]) -> Result<String, Memory> {
-    if script.len() < 1 << 32 {
-        if let Ok(lines) = read_script(alloc, script) {
-            if let Some(line) = lines.first() {
-                return command_shown(alloc, &line.copy(alloc)?);
-            }
-        }
+// The copy of the first of these commands, as a text; nothing where there is none.
+fn first_of(alloc: Global, lines: &[Line]) -> Result<String, Memory> {
+    match lines.first() {
+        Some(line) => command_shown(alloc, &line.copy(alloc)?),
+        None => Ok(String::new(alloc)),
     }
-    Ok(String::new(alloc))
+}
+
+// The same of a script.
+fn first_shown(alloc: Global, script: &[u8]) -> Result<String, Memory> {
+    if script.len() >= 1 << 32 {
+        return Ok(String::new(alloc));
+    }
+    match read_script(alloc, script) {
+        Ok(lines) => first_of(alloc, lines.as_slice()),
+        Err(_) => Ok(String::new(alloc)),
+    }
 }
 
 // Each form with its members in two orders, and which of repeated members counts.
-const COMMANDS: [(&[u8], &str); 20] = [
+const COMMANDS: &[(&[u8], &str)] = &[
     (
         b"{\"op\":\"replace\",\"at\":[0,12],\"text\":\"X\"}",
         "replace 0 12 X",
@@ -371,10 +398,16 @@ const COMMANDS: [(&[u8], &str); 20] = [
     (b"{\"op\":\"delete\"}", ""),
 ];
 
+fn is_shown(alloc: Global, script: &[u8], wanted: &str) -> Result<bool, Memory> {
+    Ok(first_shown(alloc, script)?.as_str() == wanted)
+}
+
+// The number of the first row that is wrong.
+fn first_missed(alloc: Global) -> Option<usize> {
+    COMMANDS.iter().position(|(script, wanted)| is_shown(alloc, script, wanted) != Ok(true))
+}
+
 #[test]
-fn commands_are_those_of_their_lines(rt: HostRuntime) -> Result<(), Fail> {
-    for (script, wanted) in COMMANDS {
-        assert_eq!(rt; first_shown(rt.alloc(), script)?.as_str(), wanted);
-    }
-    Ok(())
+fn commands_are_those_of_their_lines(rt: HostRuntime) {
+    assert_eq!(rt; first_missed(rt.alloc()), None);
 }

@@ -280,17 +280,18 @@ fn sees(alloc: Global, scope: &Scope, row: &Seen) -> Result<bool, Memory> {
     )
 }
 
-// The number of the first row that is wrong in the document, or of all rows.
-fn first_unseen(alloc: Global, document: &[Row], seen: &[Seen]) -> Result<usize, Memory> {
-    let Some(scope) = scope(alloc, document)? else {
-        return Ok(0);
-    };
-    for (number, row) in seen.iter().enumerate() {
-        if !sees(alloc, &scope, row)? {
-            return Ok(number);
-        }
-    }
-    Ok(seen.len())
+// The number of the first row that is wrong.
+fn first_unseen(alloc: Global, scope: &Scope, rows: &[Seen]) -> Option<usize> {
+    rows.iter()
+        .position(|row| sees(alloc, scope, row) != Ok(true))
+}
+
+// Whether all rows are right in the document.
+fn all_see(alloc: Global, document: &[Row], rows: &[Seen]) -> Result<bool, Memory> {
+    Ok(match scope(alloc, document)? {
+        Some(scope) => first_unseen(alloc, &scope, rows).is_none(),
+        None => false,
+    })
 }
 
 fn is_declared(alloc: Global, scope: &Scope, row: &Declared) -> Result<bool, Memory> {
@@ -302,20 +303,18 @@ fn is_declared(alloc: Global, scope: &Scope, row: &Declared) -> Result<bool, Mem
     Ok(once && answers(declared(scope, &at), row.0, row.1))
 }
 
-fn first_undeclared(
-    alloc: Global,
-    document: &[Row],
-    declared: &[Declared],
-) -> Result<usize, Memory> {
-    let Some(scope) = scope(alloc, document)? else {
-        return Ok(0);
-    };
-    for (number, row) in declared.iter().enumerate() {
-        if !is_declared(alloc, &scope, row)? {
-            return Ok(number);
-        }
-    }
-    Ok(declared.len())
+// The number of the first row that is wrong.
+fn first_undeclared(alloc: Global, scope: &Scope, rows: &[Declared]) -> Option<usize> {
+    rows.iter()
+        .position(|row| is_declared(alloc, scope, row) != Ok(true))
+}
+
+// Whether all rows are right in the document.
+fn all_declare(alloc: Global, document: &[Row], rows: &[Declared]) -> Result<bool, Memory> {
+    Ok(match scope(alloc, document)? {
+        Some(scope) => first_undeclared(alloc, &scope, rows).is_none(),
+        None => false,
+    })
 }
 
 fn is_placed(
@@ -331,72 +330,73 @@ fn is_placed(
     })
 }
 
-fn first_misplaced(alloc: Global) -> Result<usize, Memory> {
-    let Some(root) = tree(alloc, REPEATS)? else {
-        return Ok(0);
-    };
-    let table = Table::of_root(alloc, &root)?;
-    for (index, (number, at)) in PLACES.iter().enumerate() {
-        if !is_placed(alloc, &table, *number, *at)? {
-            return Ok(index);
-        }
-    }
-    Ok(PLACES.len())
+// The number of the first row that is wrong.
+fn first_misplaced(alloc: Global, table: &Table) -> Option<usize> {
+    PLACES.iter().position(|(number, at)| is_placed(alloc, table, *number, *at) != Ok(true))
 }
 
-fn first_misnumbered(alloc: Global) -> Result<usize, Memory> {
-    let Some(root) = tree(alloc, UNITS)? else {
-        return Ok(0);
-    };
-    let table = Table::of_root(alloc, &root)?;
-    for (index, (number, exception)) in EXCEPTIONS.iter().enumerate() {
-        if table.exception_number(DeclId(*number)) != *exception {
-            return Ok(index);
-        }
+// The number of the first row that is wrong.
+fn first_misnumbered(table: &Table) -> Option<usize> {
+    EXCEPTIONS.iter().position(|(number, wanted)| {
+        table.exception_number(DeclId(*number)) != *wanted
+    })
+}
+
+fn table(alloc: Global, rows: &[Row]) -> Result<Option<Table>, Memory> {
+    match tree(alloc, rows)? {
+        Some(root) => Ok(Some(Table::of_root(alloc, &root)?)),
+        None => Ok(None),
     }
-    Ok(EXCEPTIONS.len())
+}
+
+fn all_are_placed(alloc: Global) -> Result<bool, Memory> {
+    Ok(match table(alloc, REPEATS)? {
+        Some(table) => first_misplaced(alloc, &table).is_none(),
+        None => false,
+    })
+}
+
+fn all_are_numbered(alloc: Global) -> Result<bool, Memory> {
+    Ok(match table(alloc, UNITS)? {
+        Some(table) => first_misnumbered(&table).is_none(),
+        None => false,
+    })
 }
 
 #[test]
 fn names_see_what_is_visible(rt: HostRuntime) -> Result<(), Fail> {
-    let seen = first_unseen(rt.alloc(), UNITS, SEEN)?;
-    assert_eq!(rt; seen, SEEN.len());
+    assert!(rt; all_see(rt.alloc(), UNITS, SEEN)?);
     Ok(())
 }
 
 #[test]
 fn names_of_a_renamed_unit_see_nothing(rt: HostRuntime) -> Result<(), Fail> {
-    let before = first_unseen(rt.alloc(), CALLED, BEFORE)?;
-    assert_eq!(rt; before, BEFORE.len());
-    let alone = first_unseen(rt.alloc(), RENAMED_ALONE, ALONE)?;
-    assert_eq!(rt; alone, ALONE.len());
-    let together = first_unseen(rt.alloc(), RENAMED, TOGETHER)?;
-    assert_eq!(rt; together, TOGETHER.len());
+    assert!(rt; all_see(rt.alloc(), CALLED, BEFORE)?);
+    assert!(rt; all_see(rt.alloc(), RENAMED_ALONE, ALONE)?);
+    assert!(rt; all_see(rt.alloc(), RENAMED, TOGETHER)?);
     Ok(())
 }
 
 #[test]
 fn declarations_have_their_numbers_or_are_refused(rt: HostRuntime) -> Result<(), Fail> {
-    let undeclared = first_undeclared(rt.alloc(), REPEATS, DECLARED)?;
-    assert_eq!(rt; undeclared, DECLARED.len());
+    assert!(rt; all_declare(rt.alloc(), REPEATS, DECLARED)?);
     Ok(())
 }
 
 #[test]
 fn clauses_list_things_once(rt: HostRuntime) -> Result<(), Fail> {
-    let unlisted = first_undeclared(rt.alloc(), LISTED, CLAUSES)?;
-    assert_eq!(rt; unlisted, CLAUSES.len());
+    assert!(rt; all_declare(rt.alloc(), LISTED, CLAUSES)?);
     Ok(())
 }
 
 #[test]
 fn numbers_lead_to_places(rt: HostRuntime) -> Result<(), Fail> {
-    assert_eq!(rt; first_misplaced(rt.alloc())?, PLACES.len());
+    assert!(rt; all_are_placed(rt.alloc())?);
     Ok(())
 }
 
 #[test]
 fn exceptions_have_numbers_of_their_own(rt: HostRuntime) -> Result<(), Fail> {
-    assert_eq!(rt; first_misnumbered(rt.alloc())?, EXCEPTIONS.len());
+    assert!(rt; all_are_numbered(rt.alloc())?);
     Ok(())
 }

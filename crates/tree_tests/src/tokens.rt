@@ -6,7 +6,7 @@ use std::alloc::Global;
 use std::test::Fail;
 
 // A token by its kind, first byte, next byte, line, and whether it stands in annotation text.
-#[derive(Clone, Copy, Debug, PartialEq, Eq)]
+#[derive(Clone, Copy, PartialEq, Eq)]
 struct Told(TokenKind, u32, u32, u32, bool);
 
 #[derive(Clone, Copy)]
@@ -25,7 +25,7 @@ const MARK: TokenKind = TokenKind::Mark;
 
 const COMMENT: TokenKind = TokenKind::Comment;
 
-const ROWS: [(&[u8], Answer); 52] = [
+const ROWS: &[(&[u8], Answer)] = &[
     // nothing, and what separates
     (b"", Answer::Tokens(&[])),
     (b" \t\n\x0b\x0c\r\r\n", Answer::Tokens(&[])),
@@ -239,20 +239,15 @@ fn gives(alloc: Global, text: &[u8], expected: Answer) -> Result<bool, Memory> {
     }
 }
 
-// The first row that doesn't hold.
-fn first_wrong(alloc: Global, rows: &[(&[u8], Answer)]) -> Result<Option<usize>, Memory> {
-    for (i, row) in rows.iter().enumerate() {
-        if !gives(alloc, row.0, row.1)? {
-            return Ok(Some(i));
-        }
-    }
-    Ok(None)
+// The number of the first row that is wrong.
+fn first_wrong(alloc: Global) -> Option<usize> {
+    ROWS.iter()
+        .position(|(text, answer)| gives(alloc, text, *answer) != Ok(true))
 }
 
 #[test]
-fn texts_have_their_tokens_or_their_fault(rt: HostRuntime) -> Result<(), Fail> {
-    assert_eq!(rt; first_wrong(rt.alloc(), &ROWS)?, None);
-    Ok(())
+fn texts_have_their_tokens_or_their_fault(rt: HostRuntime) {
+    assert_eq!(rt; first_wrong(rt.alloc()), None);
 }
 
 // ---- limits
@@ -318,13 +313,15 @@ fn after(alloc: Global, front: &[u8], byte: u8) -> Result<Vec<u8>, Memory> {
     Ok(text)
 }
 
+fn after_gives(alloc: Global, front: &[u8], byte: u8, expected: Answer) -> Result<bool, Memory> {
+    let text = after(alloc, front, byte)?;
+    gives(alloc, text.as_slice(), expected)
+}
+
 fn byte_gives(alloc: Global, byte: u8) -> Result<bool, Memory> {
-    let text = after(alloc, b"", byte)?;
-    let outside = gives(alloc, text.as_slice(), alone(byte, false))?;
-    let text = after(alloc, b"--|", byte)?;
-    let in_note = gives(alloc, text.as_slice(), alone(byte, true))?;
-    let text = after(alloc, b"-- ", byte)?;
-    let inside = gives(alloc, text.as_slice(), in_comment(byte))?;
+    let outside = after_gives(alloc, b"", byte, alone(byte, false))?;
+    let in_note = after_gives(alloc, b"--|", byte, alone(byte, true))?;
+    let inside = after_gives(alloc, b"-- ", byte, in_comment(byte))?;
     Ok(outside && in_note && inside)
 }
 
@@ -394,18 +391,26 @@ fn gives_text(alloc: Global, source: &[u8], expected: &[u8]) -> Result<bool, Mem
     })
 }
 
+// A text, and the text of its first token.
+const TEXTS: &[(&[u8], &[u8])] = &[
+    (b"aBc_1", b"ABC_1"),
+    (b"00_1_20", b"120"),
+    (b"0_0", b"0"),
+    (b"BEGIN", b"begin"),
+    (b":=", b":="),
+    (b"-- a b \t", b"-- a b"),
+    (b"--", b"--"),
+    (b"--|--|a ", b"-- |a"),
+];
+
+// The number of the first row that is wrong.
+fn first_wrong_text(alloc: Global) -> Option<usize> {
+    TEXTS.iter().position(|(source, expected)| gives_text(alloc, source, expected) != Ok(true))
+}
+
 #[test]
-fn tokens_give_their_text(rt: HostRuntime) -> Result<(), Fail> {
-    let alloc = rt.alloc();
-    assert!(rt; gives_text(alloc, b"aBc_1", b"ABC_1")?);
-    assert!(rt; gives_text(alloc, b"00_1_20", b"120")?);
-    assert!(rt; gives_text(alloc, b"0_0", b"0")?);
-    assert!(rt; gives_text(alloc, b"BEGIN", b"begin")?);
-    assert!(rt; gives_text(alloc, b":=", b":=")?);
-    assert!(rt; gives_text(alloc, b"-- a b \t", b"-- a b")?);
-    assert!(rt; gives_text(alloc, b"--", b"--")?);
-    assert!(rt; gives_text(alloc, b"--|--|a ", b"-- |a")?);
-    Ok(())
+fn tokens_give_their_text(rt: HostRuntime) {
+    assert_eq!(rt; first_wrong_text(rt.alloc()), None);
 }
 
 const LOOP: Token = Token {
@@ -425,11 +430,10 @@ const BECOMES: Token = Token {
 };
 
 #[test]
-fn tokens_give_their_word_and_mark(rt: HostRuntime) -> Result<(), Fail> {
-    assert_eq!(rt; LOOP.bytes(b"  Loop"), b"Loop".as_slice());
-    assert_eq!(rt; LOOP.word(b"  Loop"), Some(Word::Loop));
-    assert_eq!(rt; LOOP.word(b"  Lope"), None);
-    assert_eq!(rt; BECOMES.mark(b":="), Some(Mark::Becomes));
-    assert_eq!(rt; BECOMES.mark(b"=:"), None);
-    Ok(())
+fn tokens_give_their_word_and_mark(rt: HostRuntime) {
+    assert!(rt; LOOP.bytes(b"  Loop") == b"Loop".as_slice());
+    assert!(rt; LOOP.word(b"  Loop") == Some(Word::Loop));
+    assert!(rt; LOOP.word(b"  Lope").is_none());
+    assert!(rt; BECOMES.mark(b":=") == Some(Mark::Becomes));
+    assert!(rt; BECOMES.mark(b"=:").is_none());
 }

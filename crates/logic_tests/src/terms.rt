@@ -25,10 +25,8 @@ fn array(alloc: Global) -> Result<Sort, Memory> {
 }
 
 fn record(alloc: Global) -> Result<Sort, Memory> {
-    let mut parts = Items::new(alloc);
-    parts.push(Sort::Truth)?;
-    parts.push(Sort::Whole)?;
-    Ok(Sort::Record(4, parts))
+    let parts = vec![in alloc; Sort::Truth, Sort::Whole]?;
+    Ok(Sort::Record(4, Items::from_vec(parts)))
 }
 
 // A sort's form and its size.
@@ -72,36 +70,33 @@ fn variable(alloc: Global, name: &str) -> Result<Term, Memory> {
 }
 
 fn two(alloc: Global, oper: Oper, left: Term, right: Term) -> Result<Term, Memory> {
-    let mut terms = Items::new(alloc);
-    terms.push(left)?;
-    terms.push(right)?;
-    Ok(Term::Op(oper, terms))
+    let operands = vec![in alloc; left, right]?;
+    Ok(Term::Op(oper, Items::from_vec(operands)))
+}
+
+fn of_names(alloc: Global, oper: Oper, left: &str, right: &str) -> Result<Term, Memory> {
+    let left = variable(alloc, left)?;
+    let right = variable(alloc, right)?;
+    two(alloc, oper, left, right)
+}
+
+fn all(alloc: Global, bound: Text, body: Term) -> Result<Term, Memory> {
+    let body = Boxed::new(alloc, body)?;
+    let low = Boxed::new(alloc, Term::Int(0))?;
+    let high = Boxed::new(alloc, Term::Int(1))?;
+    Ok(Term::All(bound, low, high, body))
 }
 
 // for all NAME in 0 .. 1 : NAME = OTHER
 fn each(alloc: Global, name: &str, other: &str) -> Result<Term, Memory> {
-    let body = two(
-        alloc,
-        Oper::Eq,
-        variable(alloc, name)?,
-        variable(alloc, other)?,
-    )?;
-    Ok(Term::All(
-        text(alloc, name)?,
-        Boxed::new(alloc, Term::Int(0))?,
-        Boxed::new(alloc, Term::Int(1))?,
-        Boxed::new(alloc, body)?,
-    ))
+    let body = of_names(alloc, Oper::Eq, name, other)?;
+    let bound = text(alloc, name)?;
+    all(alloc, bound, body)
 }
 
 // LEFT - RIGHT
 fn difference(alloc: Global, left: &str, right: &str) -> Result<Term, Memory> {
-    two(
-        alloc,
-        Oper::Sub,
-        variable(alloc, left)?,
-        variable(alloc, right)?,
-    )
+    of_names(alloc, Oper::Sub, left, right)
 }
 
 fn copied_as_it_is(alloc: Global, term: &Term) -> Result<bool, Memory> {
@@ -169,21 +164,23 @@ const REPLACED: &[Replaced] = &[
     ("J'", "Y", "J", "J", "Y"),
 ];
 
+fn with_x_replaced(alloc: Global, term: &Term, by: &str) -> Result<Term, Memory> {
+    let name = text(alloc, "X")?;
+    let by = variable(alloc, by)?;
+    subst(alloc, term, &name, &by)
+}
+
 fn is_replaced(alloc: Global, row: &Replaced) -> Result<bool, Memory> {
     let (bound, other, by, new_bound, new_other) = *row;
-    let term = each(alloc, bound, other)?;
-    let made = subst(alloc, &term, &text(alloc, "X")?, &variable(alloc, by)?)?;
+    let made = with_x_replaced(alloc, &each(alloc, bound, other)?, by)?;
     Ok(equal(&made, &each(alloc, new_bound, new_other)?))
 }
 
-// The number of the first row that is wrong, or of all rows.
-fn rows_replaced(alloc: Global) -> Result<usize, Memory> {
-    for (i, row) in REPLACED.iter().enumerate() {
-        if !is_replaced(alloc, row)? {
-            return Ok(i);
-        }
-    }
-    Ok(REPLACED.len())
+// The number of the first row that is wrong.
+fn first_not_replaced(alloc: Global) -> Option<usize> {
+    REPLACED
+        .iter()
+        .position(|row| is_replaced(alloc, row) != Ok(true))
 }
 
 fn entry(alloc: Global, name: &str, by: &str) -> Result<Entry, Memory> {
@@ -211,7 +208,7 @@ fn replaces_at_once(alloc: Global) -> Result<bool, Memory> {
 #[test]
 fn names_are_replaced(rt: HostRuntime) -> Result<(), Fail> {
     let alloc = rt.alloc();
-    assert_eq!(rt; rows_replaced(alloc)?, REPLACED.len());
+    assert_eq!(rt; first_not_replaced(alloc), None);
     assert_eq!(rt; replaces_at_once(alloc)?, true);
     Ok(())
 }
@@ -249,22 +246,28 @@ fn sizes_are_found_before_terms_are_made(rt: HostRuntime) -> Result<(), Fail> {
 // ---- sorts of terms
 
 fn add_variable(alloc: Global, vars: &mut Vars, name: &str, sort: Sort) -> Result<(), Memory> {
-    vars.push(Var {
-        name: text(alloc, name)?,
-        label: text(alloc, "SMALL")?,
-        sort,
-    })
+    let name = text(alloc, name)?;
+    let label = text(alloc, "SMALL")?;
+    vars.push(Var { name, label, sort })
 }
 
 // N is a whole number, R of a range, T a truth value, A a list, P a record and L of a generated sort.
+fn sort_named(alloc: Global, name: &str) -> Result<Sort, Memory> {
+    match name {
+        "R" => Ok(Sort::Range(0, 5)),
+        "T" => Ok(Sort::Truth),
+        "A" => array(alloc),
+        "P" => record(alloc),
+        "L" => Ok(Sort::Free(0)),
+        _ => Ok(Sort::Whole),
+    }
+}
+
 fn variables(alloc: Global) -> Result<Vars, Memory> {
     let mut vars = Vars::new(alloc);
-    add_variable(alloc, &mut vars, "N", Sort::Whole)?;
-    add_variable(alloc, &mut vars, "R", Sort::Range(0, 5))?;
-    add_variable(alloc, &mut vars, "T", Sort::Truth)?;
-    add_variable(alloc, &mut vars, "A", array(alloc)?)?;
-    add_variable(alloc, &mut vars, "P", record(alloc)?)?;
-    add_variable(alloc, &mut vars, "L", Sort::Free(0))?;
+    for name in ["N", "R", "T", "A", "P", "L"] {
+        add_variable(alloc, &mut vars, name, sort_named(alloc, name)?)?;
+    }
     Ok(vars)
 }
 
@@ -283,26 +286,53 @@ fn sorts(alloc: Global, first: Sort) -> Result<Sorts, Memory> {
     Ok(sorts)
 }
 
+fn two_sorts(alloc: Global, first: Sort, second: Sort) -> Result<Sorts, Memory> {
+    let mut sorts = sorts(alloc, first)?;
+    sorts.push(second)?;
+    Ok(sorts)
+}
+
+fn component(alloc: Global) -> Result<OpSort, Memory> {
+    let args = sorts(alloc, record(alloc)?)?;
+    operator(alloc, Oper::Field(0), args, Sort::Truth)
+}
+
+fn replacement(alloc: Global) -> Result<OpSort, Memory> {
+    let args = two_sorts(alloc, record(alloc)?, Sort::Truth)?;
+    let gives = record(alloc)?;
+    operator(alloc, Oper::Update(0), args, gives)
+}
+
+fn filled(alloc: Global) -> Result<OpSort, Memory> {
+    let args = sorts(alloc, Sort::Range(0, 5))?;
+    let gives = array(alloc)?;
+    operator(alloc, Oper::Fill(0), args, gives)
+}
+
+fn made(alloc: Global) -> Result<OpSort, Memory> {
+    let args = two_sorts(alloc, Sort::Truth, Sort::Whole)?;
+    let gives = record(alloc)?;
+    operator(alloc, Oper::Make(4), args, gives)
+}
+
+fn free(alloc: Global) -> Result<OpSort, Memory> {
+    let args = sorts(alloc, Sort::Free(0))?;
+    operator(alloc, Oper::User(3), args, Sort::Range(1, 2))
+}
+
 // A component of the record, its replacement, a list of one element, the record, and an operator.
 fn operators(alloc: Global) -> Result<OpSorts, Memory> {
     let mut ops = OpSorts::new(alloc);
-    let of_record = sorts(alloc, record(alloc)?)?;
-    ops.push(operator(alloc, Oper::Field(0), of_record, Sort::Truth)?)?;
-    let mut two_of = sorts(alloc, record(alloc)?)?;
-    two_of.push(Sort::Truth)?;
-    ops.push(operator(alloc, Oper::Update(0), two_of, record(alloc)?)?)?;
-    let of_number = sorts(alloc, Sort::Range(0, 5))?;
-    ops.push(operator(alloc, Oper::Fill(0), of_number, array(alloc)?)?)?;
+    ops.push(component(alloc)?)?;
+    ops.push(replacement(alloc)?)?;
+    ops.push(filled(alloc)?)?;
     Ok(ops)
 }
 
 fn more_operators(alloc: Global) -> Result<OpSorts, Memory> {
     let mut ops = operators(alloc)?;
-    let mut parts = sorts(alloc, Sort::Truth)?;
-    parts.push(Sort::Whole)?;
-    ops.push(operator(alloc, Oper::Make(4), parts, record(alloc)?)?)?;
-    let of_free = sorts(alloc, Sort::Free(0))?;
-    ops.push(operator(alloc, Oper::User(3), of_free, Sort::Range(1, 2))?)?;
+    ops.push(made(alloc)?)?;
+    ops.push(free(alloc)?)?;
     Ok(ops)
 }
 
@@ -402,38 +432,46 @@ fn is_sorted(
     Ok(form_of(&sort) == form)
 }
 
-// The number of the first row that is wrong, or of all rows.
-fn rows_sorted(alloc: Global) -> Result<usize, Memory> {
+// The number of the first row that is wrong.
+fn first_unsorted(alloc: Global, vars: &Vars, ops: &OpSorts) -> Option<usize> {
+    SORTED
+        .iter()
+        .position(|row| is_sorted(alloc, row, vars, ops) != Ok(true))
+}
+
+fn all_are_sorted(alloc: Global) -> Result<bool, Memory> {
     let vars = variables(alloc)?;
     let ops = more_operators(alloc)?;
-    for (i, row) in SORTED.iter().enumerate() {
-        if !is_sorted(alloc, row, &vars, &ops)? {
-            return Ok(i);
-        }
-    }
-    Ok(SORTED.len())
+    Ok(first_unsorted(alloc, &vars, &ops).is_none())
 }
 
 #[test]
 fn sorts_of_terms_are_found(rt: HostRuntime) -> Result<(), Fail> {
-    assert_eq!(rt; rows_sorted(rt.alloc())?, SORTED.len());
+    assert!(rt; all_are_sorted(rt.alloc())?);
     Ok(())
 }
 
 // ---- obligations
 
 // Six variables, one hypothesis and a goal.
-fn obligation(alloc: Global) -> Result<Obligation, Memory> {
+fn sequent(alloc: Global) -> Result<Sequent, Memory> {
+    let vars = variables(alloc)?;
     let mut hyps = Terms::new(alloc);
     hyps.push(Term::Int(1))?;
+    Ok(Sequent {
+        vars,
+        hyps,
+        goal: Term::Truth(true),
+    })
+}
+
+fn obligation(alloc: Global) -> Result<Obligation, Memory> {
+    let cut = text(alloc, "loop1")?;
+    let sequent = sequent(alloc)?;
     Ok(Obligation {
-        cut: text(alloc, "loop1")?,
+        cut,
         ordinal: 3,
-        sequent: Sequent {
-            vars: variables(alloc)?,
-            hyps,
-            goal: Term::Truth(true),
-        },
+        sequent,
     })
 }
 
@@ -453,8 +491,9 @@ fn obligation_shape(obligations: &[Obligation]) -> (usize, usize, u32, usize, us
 }
 
 fn copied_obligations(alloc: Global) -> Result<(usize, usize, u32, usize, usize), Memory> {
+    let obligation = obligation(alloc)?;
     let mut obligations = Obligations::new(alloc);
-    obligations.push(obligation(alloc)?)?;
+    obligations.push(obligation)?;
     Ok(obligation_shape(obligations.copy(alloc)?.as_slice()))
 }
 
@@ -477,11 +516,12 @@ fn pair(alloc: Global, first: &str, second: &str) -> Result<Names, Memory>
 
 // A record type with two components.
 fn sort_names(alloc: Global) -> Result<SortNames, Memory> {
-    let mut names = SortNames::new(alloc);
+    let name = text(alloc, "PAIR")?;
     let parts = pair(alloc, "LEFT", "RIGHT")?;
     let sorts = Items::from_vec(vec![in alloc; Sort::Whole, Sort::Truth]?);
+    let mut names = SortNames::new(alloc);
     names.push(SortEntry {
-        name: text(alloc, "PAIR")?,
+        name,
         sort: Sort::Record(0, sorts),
         seen: true,
         parts,

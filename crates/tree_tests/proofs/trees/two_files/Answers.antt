@@ -1,6 +1,6 @@
 use Rattle.std.proofs.Common.{[]}
-use Rattle.layer_tests.proofs.EmptyFiles.{one_more, two_fit}
-use Rattle.layer_tests.proofs.trees.two_files.Goals as goal
+use Rattle.tree_tests.proofs.EmptyFiles.{one_more, two_fit}
+use Rattle.tree_tests.proofs.trees.two_files.Goals as goal
 
 pub invariant_of-result : goal.invariant_of-result
 invariant_of-result c =

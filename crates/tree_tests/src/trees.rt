@@ -149,64 +149,123 @@ fn kind_at(alloc: Global, doc: &Doc, path: &[u32]) -> Result<Option<Kind>, Memor
     })
 }
 
+// A path in the document of two files, and the kind of the node there.
+const PATHS: &[(&[u32], Option<Kind>)] = &[
+    (&[], Some(Kind::Doc)),
+    (&[1], Some(Kind::File)),
+    (&[2], None),
+    (&[1, 0], None),
+];
+
+// The number of the first row that is wrong.
+fn first_astray(alloc: Global, doc: &Doc) -> Option<usize> {
+    PATHS
+        .iter()
+        .position(|(path, kind)| kind_at(alloc, doc, path) != Ok(*kind))
+}
+
+fn two_files_are_walked(alloc: Global) -> Result<bool, Memory> {
+    let doc = two_files(alloc)?;
+    Ok(first_astray(alloc, &doc).is_none())
+}
+
+fn two_files_are_counted(alloc: Global) -> Result<bool, Memory> {
+    Ok(counts(&two_files(alloc)?) == Counts { tree: 2, proof: 0 })
+}
+
+fn two_files_are_copied(alloc: Global) -> Result<bool, Memory> {
+    let doc = two_files(alloc)?;
+    Ok(same(&doc, &doc.copy(alloc)?))
+}
+
+fn one_file_is_another_document(alloc: Global) -> Result<bool, Memory> {
+    let doc = two_files(alloc)?;
+    Ok(!same(&doc, &one_file(alloc)?))
+}
+
 #[test]
 fn a_document_is_walked_counted_copied_and_compared(rt: HostRuntime) -> Result<(), Fail> {
     let alloc = rt.alloc();
-    let doc = two_files(alloc)?;
-    assert_eq!(rt; kind_at(alloc, &doc, &[])?, Some(Kind::Doc));
-    assert_eq!(rt; kind_at(alloc, &doc, &[1])?, Some(Kind::File));
-    assert_eq!(rt; kind_at(alloc, &doc, &[2])?, None);
-    assert_eq!(rt; kind_at(alloc, &doc, &[1, 0])?, None);
-    assert_eq!(rt; counts(&doc), Counts { tree: 2, proof: 0 });
-    let copy = doc.copy(alloc)?;
-    assert!(rt; same(&doc, &copy));
-    let other = one_file(alloc)?;
-    assert!(rt; !same(&doc, &other));
+    assert!(rt; two_files_are_walked(alloc)?);
+    assert!(rt; two_files_are_counted(alloc)?);
+    assert!(rt; two_files_are_copied(alloc)?);
+    assert!(rt; one_file_is_another_document(alloc)?);
     Ok(())
+}
+
+fn words_are_written() -> bool {
+    Word::Procedure.text() == "procedure" && Word::Make.text() == "make"
+}
+
+fn marks_are_looked_up() -> bool {
+    let found = Mark::of(b"==");
+    Mark::Becomes.text() == ":=" && found == Some(Mark::DoubleEqual) && Mark::of(b"=!").is_none()
+}
+
+fn operators_are_written() -> bool {
+    Operator::AndThen.text() == "and then" && Operator::Not.line().len() == 2
+}
+
+fn rules_are_looked_up() -> bool {
+    let found = ProofRule::of(b"all_hyp");
+    found == Some(ProofRule::AllHyp) && ProofRule::AllHyp.text() == "all_hyp"
+}
+
+fn rules_have_arguments() -> bool {
+    let wanted = [Argument::Number, Argument::Term];
+    ProofRule::AllHyp.arguments() == wanted.as_slice() && arguments(b"guess").is_empty()
 }
 
 #[test]
 fn tables_are_looked_up(rt: HostRuntime) {
-    assert_eq!(rt; Word::Procedure.text(), "procedure");
-    assert_eq!(rt; Word::Make.text(), "make");
-    assert_eq!(rt; Mark::Becomes.text(), ":=");
-    assert_eq!(rt; Mark::of(b"=="), Some(Mark::DoubleEqual));
-    assert_eq!(rt; Mark::of(b"=!"), None);
-    assert_eq!(rt; Operator::AndThen.text(), "and then");
-    assert_eq!(rt; Operator::Not.line().len(), 2);
-    assert_eq!(rt; ProofRule::of(b"all_hyp"), Some(ProofRule::AllHyp));
-    assert_eq!(rt; ProofRule::AllHyp.text(), "all_hyp");
-    assert_eq!(rt;
-        ProofRule::AllHyp.arguments(),
-        [Argument::Number, Argument::Term].as_slice()
-    );
-    assert_eq!(rt; arguments(b"guess").len(), 0);
+    assert!(rt; words_are_written());
+    assert!(rt; marks_are_looked_up());
+    assert!(rt; operators_are_written());
+    assert!(rt; rules_are_looked_up());
+    assert!(rt; rules_have_arguments());
 }
 
-#[test]
-fn operators_have_their_side_and_level(rt: HostRuntime) {
+fn minus_has_its_entry() -> bool {
     let minus = OperatorEntry {
         operator: Operator::Minus,
         kind: Kind::Unary,
         side: Side::Both,
         level: Level::Signed,
     };
-    assert_eq!(rt; OperatorEntry::of(Kind::Unary, b"-"), Some(minus));
-    assert_eq!(rt; OperatorEntry::of(Kind::Binary, b"**"), None);
+    OperatorEntry::of(Kind::Unary, b"-") == Some(minus)
+}
+
+#[test]
+fn operators_have_their_side_and_level(rt: HostRuntime) {
+    assert!(rt; minus_has_its_entry());
+    assert!(rt; OperatorEntry::of(Kind::Binary, b"**").is_none());
+}
+
+fn clauses_have_their_kinds() -> bool {
+    Choice::Clause.kinds() == [Kind::With, Kind::Use].as_slice()
+}
+
+fn bounds_open_and_marks_do_not() -> bool {
+    Choice::Bound.opens() && !Choice::Mark.opens()
+}
+
+fn iff_stands_in_annotations_alone() -> bool {
+    let is_outside = Choice::Expr.admits(false, Kind::Binary, b"iff");
+    !is_outside && Choice::Expr.admits(true, Kind::Binary, b"iff")
+}
+
+fn null_has_its_line() -> bool {
+    let wanted = [Piece::Word(Word::Null), Piece::Mark(Mark::Semicolon)];
+    line(Choice::Stmt, Kind::Null, b"") == wanted.as_slice()
 }
 
 #[test]
 fn choices_admit_their_kinds(rt: HostRuntime) {
-    assert_eq!(rt; Choice::Clause.kinds(), [Kind::With, Kind::Use].as_slice());
-    assert_eq!(rt; Choice::Stmt.comments(), Comments::Each);
-    assert!(rt; Choice::Bound.opens());
-    assert!(rt; !Choice::Mark.opens());
-    assert!(rt; !Choice::Expr.admits(false, Kind::Binary, b"iff"));
-    assert!(rt; Choice::Expr.admits(true, Kind::Binary, b"iff"));
-    assert_eq!(rt;
-        line(Choice::Stmt, Kind::Null, b""),
-        [Piece::Word(Word::Null), Piece::Mark(Mark::Semicolon)].as_slice()
-    );
+    assert!(rt; clauses_have_their_kinds());
+    assert!(rt; Choice::Stmt.comments() == Comments::Each);
+    assert!(rt; bounds_open_and_marks_do_not());
+    assert!(rt; iff_stands_in_annotations_alone());
+    assert!(rt; null_has_its_line());
 }
 
 // A statement with so many comments.

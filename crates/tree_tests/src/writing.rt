@@ -35,8 +35,9 @@ fn commented_file(alloc: Global) -> Result<Node, Memory>
 }
 
 fn commented_doc(alloc: Global) -> Result<Doc, Memory> {
+    let file = commented_file(alloc)?;
     let mut files = Kids::new(alloc);
-    files.push(commented_file(alloc)?)?;
+    files.push(file)?;
     Ok(Doc {
         root: document(alloc, files),
     })
@@ -44,8 +45,8 @@ fn commented_doc(alloc: Global) -> Result<Doc, Memory> {
 
 // Whether the file of this number is written so.
 fn is_written(alloc: Global, file: u32, lines: &str) -> Result<bool, Memory> {
-    let bytes = write_doc(alloc, &commented_doc(alloc)?, file)?;
-    Ok(bytes.as_slice() == lines.as_bytes())
+    let doc = commented_doc(alloc)?;
+    Ok(write_doc(alloc, &doc, file)?.as_slice() == lines.as_bytes())
 }
 
 #[test]
@@ -75,10 +76,10 @@ fn names(alloc: Global) -> Result<OpNames, Memory> {
 
 // P = Q
 fn equation(alloc: Global) -> Result<Term, Memory> {
-    let mut terms = Items::new(alloc);
-    terms.push(Term::Var(text(alloc, "P")?))?;
-    terms.push(Term::Var(text(alloc, "Q")?))?;
-    Ok(Term::Op(Oper::Eq, terms))
+    let left = Term::Var(text(alloc, "P")?);
+    let right = Term::Var(text(alloc, "Q")?);
+    let sides = vec![in alloc; left, right]?;
+    Ok(Term::Op(Oper::Eq, Items::from_vec(sides)))
 }
 
 // What a letter stands for.
@@ -102,12 +103,18 @@ fn applied(alloc: Global, oper: Oper, operands: &str) -> Result<Term, Memory> {
     Ok(Term::Op(oper, terms))
 }
 
-fn goal(goal: Term, alloc: Global) -> Sequent {
+fn alone(alloc: Global, goal: Term) -> Sequent {
     Sequent {
         vars: Vars::new(alloc),
         hyps: Terms::new(alloc),
         goal,
     }
+}
+
+// The lines of the sequent, by these names.
+fn written(alloc: Global, sequent: &Sequent, indent: u32) -> Result<Vec<u8>, Memory> {
+    let names = names(alloc)?;
+    write_sequent(alloc, sequent, &names, indent)
 }
 
 // An operator, its operands by a letter each, and the line of the goal.
@@ -149,56 +156,58 @@ const PRINTED: &[Printed] = &[
     (Oper::Add, "A", "goal +(A)\n"),
 ];
 
-fn is_printed(alloc: Global, row: &Printed) -> Result<bool, Memory> {
-    let (oper, operands, line) = *row;
-    let sequent = goal(applied(alloc, oper, operands)?, alloc);
-    let names = names(alloc)?;
-    let lines = write_sequent(alloc, &sequent, &names, 0)?;
-    Ok(lines.as_slice() == line.as_bytes())
+fn goal_line(alloc: Global, oper: Oper, operands: &str) -> Result<Vec<u8>, Memory> {
+    let goal = applied(alloc, oper, operands)?;
+    written(alloc, &alone(alloc, goal), 0)
 }
 
-// How many rows are printed, up to the first that isn't.
-fn rows_printed(alloc: Global) -> Result<usize, Memory> {
-    for (i, row) in PRINTED.iter().enumerate() {
-        if !is_printed(alloc, row)? {
-            return Ok(i);
-        }
-    }
-    Ok(PRINTED.len())
+fn is_printed(alloc: Global, row: &Printed) -> Result<bool, Memory> {
+    let (oper, operands, line) = *row;
+    Ok(goal_line(alloc, oper, operands)?.as_slice() == line.as_bytes())
+}
+
+// The number of the first row that is wrong.
+fn first_misprinted(alloc: Global) -> Option<usize> {
+    PRINTED
+        .iter()
+        .position(|row| is_printed(alloc, row) != Ok(true))
 }
 
 #[test]
-fn each_operator_is_printed(rt: HostRuntime) -> Result<(), Fail> {
-    let alloc = rt.alloc();
-    assert_eq!(rt; rows_printed(alloc)?, PRINTED.len());
-    Ok(())
+fn each_operator_is_printed(rt: HostRuntime) {
+    assert_eq!(rt; first_misprinted(rt.alloc()), None);
 }
 
 // for all I in 1 .. -7 : P = Q
 fn each(alloc: Global) -> Result<Term, Memory> {
-    Ok(Term::All(
-        text(alloc, "I")?,
-        Boxed::new(alloc, Term::Int(1))?,
-        Boxed::new(alloc, Term::Int(-7))?,
-        Boxed::new(alloc, equation(alloc)?)?,
-    ))
+    let bound = text(alloc, "I")?;
+    let body = Boxed::new(alloc, equation(alloc)?)?;
+    let low = Boxed::new(alloc, Term::Int(1))?;
+    let high = Boxed::new(alloc, Term::Int(-7))?;
+    Ok(Term::All(bound, low, high, body))
 }
 
-fn sequent(alloc: Global) -> Result<Sequent, Memory> {
-    let mut vars = Vars::new(alloc);
-    vars.push(Var {
+fn vars(alloc: Global) -> Result<Vars, Memory> {
+    let var = Var {
         name: text(alloc, "A")?,
         label: text(alloc, "V.VEC")?,
         sort: Sort::Whole,
-    })?;
-    let mut hyps = Items::new(alloc);
-    hyps.push(Term::Truth(false))?;
-    hyps.push(each(alloc)?)?;
-    Ok(Sequent {
-        vars,
-        hyps,
-        goal: equation(alloc)?,
-    })
+    };
+    let mut vars = Vars::new(alloc);
+    vars.push(var)?;
+    Ok(vars)
+}
+
+fn hyps(alloc: Global) -> Result<Terms, Memory> {
+    let hyps = vec![in alloc; Term::Truth(false), each(alloc)?]?;
+    Ok(Items::from_vec(hyps))
+}
+
+fn sequent(alloc: Global) -> Result<Sequent, Memory> {
+    let vars = vars(alloc)?;
+    let hyps = hyps(alloc)?;
+    let goal = equation(alloc)?;
+    Ok(Sequent { vars, hyps, goal })
 }
 
 const LINES: &str =
@@ -206,9 +215,7 @@ const LINES: &str =
 
 fn sequent_is_printed(alloc: Global) -> Result<bool, Memory> {
     let sequent = sequent(alloc)?;
-    let names = names(alloc)?;
-    let lines = write_sequent(alloc, &sequent, &names, 4)?;
-    Ok(lines.as_slice() == LINES.as_bytes())
+    Ok(written(alloc, &sequent, 4)?.as_slice() == LINES.as_bytes())
 }
 
 #[test]

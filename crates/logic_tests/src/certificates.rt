@@ -88,29 +88,34 @@ fn sort(alloc: Global, name: &str) -> Result<Sort, Memory> {
 
 const NAMES: &[&str] = &["K", "I", "N", "R", "S", "T", "U", "A", "X", "Y"];
 
+fn variable(alloc: Global, name: &str) -> Result<Var, Memory> {
+    let label = text(alloc, name)?;
+    let sort = sort(alloc, name)?;
+    let name = text(alloc, name)?;
+    Ok(Var { name, label, sort })
+}
+
 fn variables(alloc: Global) -> Result<Vars, Memory> {
     let mut vars = Vars::new(alloc);
     for name in NAMES {
-        vars.push(Var {
-            name: text(alloc, name)?,
-            label: text(alloc, name)?,
-            sort: sort(alloc, name)?,
-        })?;
+        vars.push(variable(alloc, name)?)?;
     }
     Ok(vars)
 }
 
-fn sequent(alloc: Global, row: &str) -> Result<Sequent, Memory> {
-    let mut hyps: Terms = Items::new(alloc);
+fn terms(alloc: Global, row: &str) -> Result<Terms, Memory> {
+    let mut terms = Terms::new(alloc);
     for words in row.split(',') {
-        hyps.push(term(alloc, words)?)?;
+        terms.push(term(alloc, words)?)?;
     }
+    Ok(terms)
+}
+
+fn sequent(alloc: Global, row: &str) -> Result<Sequent, Memory> {
+    let vars = variables(alloc)?;
+    let mut hyps = terms(alloc, row)?;
     let goal = hyps.pop().unwrap_or(Term::Truth(false));
-    Ok(Sequent {
-        vars: variables(alloc)?,
-        hyps,
-        goal,
-    })
+    Ok(Sequent { vars, hyps, goal })
 }
 
 fn row_closes(alloc: Global, row: &str, coeffs: &[i64]) -> Result<bool, Memory> {
@@ -120,14 +125,9 @@ fn row_closes(alloc: Global, row: &str, coeffs: &[i64]) -> Result<bool, Memory> 
 // A row, its coefficients, and whether they close it.
 type Row = (&'static str, &'static [i64], bool);
 
-// The number of the first row that is wrong, or of all rows.
-fn rows_right(alloc: Global, rows: &[Row]) -> Result<usize, Memory> {
-    for (i, (row, coeffs, want)) in rows.iter().enumerate() {
-        if row_closes(alloc, row, coeffs)? != *want {
-            return Ok(i);
-        }
-    }
-    Ok(rows.len())
+// The number of the first row that is wrong.
+fn first_wrong(alloc: Global, rows: &[Row]) -> Option<usize> {
+    rows.iter().position(|(row, coeffs, want)| row_closes(alloc, row, coeffs) != Ok(*want))
 }
 
 // ---- steps of proofs
@@ -187,9 +187,8 @@ const STEPS: &[Row] = &[
 ];
 
 #[test]
-fn steps_of_proofs_close(rt: HostRuntime) -> Result<(), Fail> {
-    assert_eq!(rt; rows_right(rt.alloc(), STEPS)?, STEPS.len());
-    Ok(())
+fn steps_of_proofs_close(rt: HostRuntime) {
+    assert_eq!(rt; first_wrong(rt.alloc(), STEPS), None);
 }
 
 // ---- near misses: one weight is greater or less by one
@@ -203,35 +202,43 @@ fn with_more(alloc: Global, coeffs: &[i64], at: usize, more: i64) -> Result<Vec<
     Ok(others)
 }
 
-// How many of a row's near misses close it.
-fn near_misses(alloc: Global, row: &Row) -> Result<usize, Memory> {
-    let (words, coeffs, _) = *row;
-    let sequent = sequent(alloc, words)?;
-    let mut count = 0usize;
-    for at in 0..coeffs.len() {
-        for more in [-1, 1] {
-            if closes(&sequent, with_more(alloc, coeffs, at, more)?.as_slice()) {
-                count = count.saturating_add(1);
-            }
-        }
-    }
-    Ok(count)
+// Whether the sequent is closed with so much more at one place.
+fn misses(
+    alloc: Global,
+    sequent: &Sequent,
+    coeffs: &[i64],
+    at: usize,
+    more: i64,
+) -> Result<bool, Memory> {
+    Ok(!closes(sequent, with_more(alloc, coeffs, at, more)?.as_slice()))
 }
 
-// The number of the first row with a near miss that closes, or of all rows.
-fn rows_missed(alloc: Global, rows: &[Row]) -> Result<usize, Memory> {
-    for (i, row) in rows.iter().enumerate() {
-        if near_misses(alloc, row)? != 0 {
-            return Ok(i);
+// Whether none of a row's near misses closes it.
+fn all_miss(alloc: Global, sequent: &Sequent, coeffs: &[i64]) -> Result<bool, Memory> {
+    for at in 0..coeffs.len() {
+        let is_less = misses(alloc, sequent, coeffs, at, -1)?;
+        if !is_less || !misses(alloc, sequent, coeffs, at, 1)? {
+            return Ok(false);
         }
     }
-    Ok(rows.len())
+    Ok(true)
+}
+
+fn has_no_near_miss(alloc: Global, row: &Row) -> Result<bool, Memory> {
+    let (words, coeffs, _) = *row;
+    let sequent = sequent(alloc, words)?;
+    all_miss(alloc, &sequent, coeffs)
+}
+
+// The number of the first row with a near miss that closes.
+fn first_missed(alloc: Global, rows: &[Row]) -> Option<usize> {
+    rows.iter()
+        .position(|row| has_no_near_miss(alloc, row) != Ok(true))
 }
 
 #[test]
-fn near_misses_do_not_close(rt: HostRuntime) -> Result<(), Fail> {
-    assert_eq!(rt; rows_missed(rt.alloc(), STEPS)?, STEPS.len());
-    Ok(())
+fn near_misses_do_not_close(rt: HostRuntime) {
+    assert_eq!(rt; first_missed(rt.alloc(), STEPS), None);
 }
 
 // ---- the rules
@@ -308,9 +315,8 @@ const RULES: &[Row] = &[
 ];
 
 #[test]
-fn rules_on_coefficients_are_kept(rt: HostRuntime) -> Result<(), Fail> {
-    assert_eq!(rt; rows_right(rt.alloc(), RULES)?, RULES.len());
-    Ok(())
+fn rules_on_coefficients_are_kept(rt: HostRuntime) {
+    assert_eq!(rt; first_wrong(rt.alloc(), RULES), None);
 }
 
 // ---- the bounds, met and passed by one
@@ -411,59 +417,57 @@ const BOUNDS: &[Row] = &[
 ];
 
 #[test]
-fn bounds_are_kept(rt: HostRuntime) -> Result<(), Fail> {
-    assert_eq!(rt; rows_right(rt.alloc(), BOUNDS)?, BOUNDS.len());
-    Ok(())
+fn bounds_are_kept(rt: HostRuntime) {
+    assert_eq!(rt; first_wrong(rt.alloc(), BOUNDS), None);
 }
 
 // ---- more atoms than are added up at once
 
+fn two(alloc: Global, oper: Oper, left: Term, right: Term) -> Result<Term, Memory> {
+    let operands = vec![in alloc; left, right]?;
+    Ok(Term::Op(oper, Items::from_vec(operands)))
+}
+
 // A number times the variable of a number.
 fn scaled(alloc: Global, factor: i128, number: u8) -> Result<Term, Memory> {
-    let mut bytes = Vec::new(alloc);
-    bytes.push(b'X')?;
-    bytes.push(number)?;
-    let mut factors = Vec::new(alloc);
-    factors.push(Term::Int(factor))?;
-    factors.push(Term::Var(Text::from(bytes)))?;
-    Ok(Term::Op(Oper::Mul, Items::from_vec(factors)))
+    let name = Text::from(vec![in alloc; b'X', number]?);
+    two(alloc, Oper::Mul, Term::Int(factor), Term::Var(name))
 }
 
 // The variable of a number is at most the one of another number, both times a factor.
 fn at_most(alloc: Global, factor: i128, low: u8, high: u8) -> Result<Term, Memory> {
-    let mut sides = Vec::new(alloc);
-    sides.push(scaled(alloc, factor, low)?)?;
-    sides.push(scaled(alloc, factor, high)?)?;
-    Ok(Term::Op(Oper::Le, Items::from_vec(sides)))
+    let left = scaled(alloc, factor, low)?;
+    let right = scaled(alloc, factor, high)?;
+    two(alloc, Oper::Le, left, right)
 }
 
-// X0 <= X1, X1 <= X2 and so on, up to X200; and the goal X0 <= X200.
-fn chain(alloc: Global, factor: i128) -> Result<Sequent, Memory> {
-    let mut hyps: Terms = Items::new(alloc);
+// X0 <= X1, X1 <= X2 and so on, up to X200.
+fn links(alloc: Global, factor: i128) -> Result<Terms, Memory> {
+    let mut hyps = Terms::new(alloc);
     for i in 0u8..200 {
         hyps.push(at_most(alloc, factor, i, i + 1)?)?;
     }
+    Ok(hyps)
+}
+
+// These, and the goal X0 <= X200.
+fn chain(alloc: Global, factor: i128) -> Result<Sequent, Memory> {
+    let goal = at_most(alloc, factor, 0, 200)?;
     Ok(Sequent {
         vars: Vars::new(alloc),
-        hyps,
-        goal: at_most(alloc, factor, 0, 200)?,
+        hyps: links(alloc, factor)?,
+        goal,
     })
 }
 
 // Whether the chain is closed, and whether it is with one of its weights less, or one greater.
 fn chain_closes(alloc: Global, factor: i128) -> Result<(bool, bool, bool), Memory> {
-    let sequent = chain(alloc, factor)?;
     let ones = vec![in alloc; 1; 201]?;
-    let whole = closes(&sequent, ones.as_slice());
-    let less = closes(
-        &sequent,
-        with_more(alloc, ones.as_slice(), 150, -1)?.as_slice(),
-    );
-    let more = closes(
-        &sequent,
-        with_more(alloc, ones.as_slice(), 0, 1)?.as_slice(),
-    );
-    Ok((whole, less, more))
+    let sequent = chain(alloc, factor)?;
+    let coeffs = ones.as_slice();
+    let less = misses(alloc, &sequent, coeffs, 150, -1)?;
+    let more = misses(alloc, &sequent, coeffs, 0, 1)?;
+    Ok((closes(&sequent, coeffs), !less, !more))
 }
 
 #[test]

@@ -1,0 +1,4 @@
+use Rattle.layer_tests.proofs.attributes.grown.Given as goal
+
+abbrev pub ghosts-grown_by : goal.ghosts-grown_by
+ghosts-grown_by a = record { name = a.blank.name; parts = a.blank.parts }
