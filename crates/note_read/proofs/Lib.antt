@@ -1,14 +1,16 @@
 mod Advances
+mod Alike
 mod Building
+mod Counting
 mod Endings
 mod Higher
-mod Leads
+mod Known
 mod Lines
-mod Lying
+pub mod Lying
 mod Outcomes
 mod Rows
 mod Runs
 mod Stacks
 mod Steps
-mod WeighedTable
+mod Thin
 mod Wide

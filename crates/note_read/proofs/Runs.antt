@@ -1,19 +1,16 @@
 -- Reading signs one by one is reading the tokens that bring the comments before them.
-use Rattle.std.proofs.Common.{◌≡◌, ℕ, zero, suc, List, [], ◌∷◌, ◌++◌, refl, sym, ◌∙◌, ap, Bool, Option, Some, None, option_map, if◌then◌else◌, append_assoc, append-nil}
+use Rattle.std.proofs.Common.{◌≡◌, ℕ, List, [], ◌∷◌, ◌++◌, refl, sym, ◌∙◌, ap, Bool, Option, Some, None, option_map, if◌then◌else◌, append_assoc, append-nil}
 use Rattle.ada_tree.specs.Tokens.{Lexeme, Sign, token, comment}
+use Rattle.note_read.proofs.Alike.{lead_same, enter_same}
 use Rattle.note_read.specs.Signs.{read_signs, ended_at, read_by_table}
-use Rattle.reading_table.specs.Machine.{first_some, after, lead_at, lead, enter, perform_at, perform, performed, feed, hush, apply}
+use Rattle.reading_table.specs.Machine.{lead, enter, perform_at, perform, performed, feed, hush, apply}
 use Rattle.reading_table.specs.Reading.{reading_table, deepest}
-use Rattle.reading_table.specs.Rows.{Part, Placed, rows}
+use Rattle.reading_table.specs.Rows.{Part, Placed}
 use Rattle.reading_table.specs.Signs.{tokens_from, trailing_from}
 use Rattle.reading_table.specs.States.{Token, State}
 use Rattle.reading_table.specs.Tables.{View, token as is_token, done, part}
 use Rattle.reading_table.specs.Limits.{later, limited}
 use Rattle.reading_table.specs.Weighed.{at_beginning, Weighed, weighed_table, Progress, with_token, is_within, ended_by, within_limits, with_next, run_weighed}
-
-first_same : {A B : Type 0} → (f g : A → Option B) → ((x : A) → f x ≡ g x) → (xs : List A) → first_some f xs ≡ first_some g xs
-first_same f g h [] = refl
-first_same f g h (x ∷ xs) = rw (h x, first_same f g h xs) refl
 
 -- ---- the comments before a token don't tell how it is read
 
@@ -23,23 +20,6 @@ module _ (texts : List (List ℕ)) (note : Bool) (lexeme : Lexeme) where
 
   abbrev without : Token
   without = record { comments = []; note = note; lexeme = lexeme }
-
-  lead_same : (depth : ℕ) → ((p : Part) → enter weighed_table depth p with_them ≡ enter weighed_table depth p without) → (line : List Placed)
-      → lead weighed_table (enter weighed_table depth) with_them line ≡ lead weighed_table (enter weighed_table depth) without line
-  lead_same depth h [] = refl
-  lead_same depth h (s ∷ ss) = by_view (reading_table.view s) (lead_same depth h ss)
-    where
-      by_view : (v : View Part) → lead weighed_table (enter weighed_table depth) with_them ss ≡ lead weighed_table (enter weighed_table depth) without ss
-          → lead_at weighed_table (enter weighed_table depth) with_them v s ss (lead weighed_table (enter weighed_table depth) with_them ss)
-          ≡ lead_at weighed_table (enter weighed_table depth) without v s ss (lead weighed_table (enter weighed_table depth) without ss)
-      by_view is_token e = refl
-      by_view done e = ap (after s) e
-      by_view (part p) e = rw (h p, e) refl
-
-  enter_same : (depth : ℕ) (p : Part) → enter weighed_table depth p with_them ≡ enter weighed_table depth p without
-  enter_same zero p = refl
-  enter_same (suc depth) p =
-      first_same (lead weighed_table (enter weighed_table depth) with_them) (lead weighed_table (enter weighed_table depth) without) (lead_same depth (enter_same depth)) (rows p)
 
   perform_same : (line : List Placed) (state : Weighed) → perform weighed_table line state with_them ≡ perform weighed_table line state without
   perform_same [] state = refl
@@ -53,7 +33,7 @@ module _ (texts : List (List ℕ)) (note : Bool) (lexeme : Lexeme) where
       by_view (part p) e = refl
 
   feed_same : (depth : ℕ) (ss : List Placed) (state : Weighed) → feed weighed_table depth ss state with_them ≡ feed weighed_table depth ss state without
-  feed_same depth ss state = rw (lead_same depth (enter_same depth) ss) (by_line (lead weighed_table (enter weighed_table depth) without ss))
+  feed_same depth ss state = rw (lead_same with_them without (λ s. refl) depth (enter_same with_them without (λ s. refl) depth) ss) (by_line (lead weighed_table (enter weighed_table depth) without ss))
     where
       by_line : (o : Option (List Placed)) → performed weighed_table o state with_them ≡ performed weighed_table o state without
       by_line None = refl

@@ -39,6 +39,9 @@ module _ {A : Type 0} (xs : List A) (n : ℕ) where
         ap (λ m. reverse (take m xs)) z ∙ sym (drop_of_length-le (reverse xs) (subst (λ m. m ≤ n) (sym (length-reverse xs)) h))
   ]
 
+pub line_before : {A : Type 0} (old line : List A) → reverse (old ++ line) ≡ reverse line ++ reverse old
+line_before old line = reverse-append old line
+
 -- ---- what is left of a list from a place on
 
 from_here_suc : {A : Type 0} (xs : List A) (d : ℕ) (x : A) → slice_get xs d ≡ Some x → drop d xs ≡ x ∷ drop (suc d) xs

@@ -1,8 +1,11 @@
-pub mod Choosing
+pub mod Bare
+pub mod Finds
 pub mod Lexemes
 pub mod Machines
 pub mod Needs
 pub mod Rows
+pub mod Sights
+pub mod Signs
 pub mod Values
 pub mod Views
-pub mod Signs
+pub mod Ways

@@ -1,31 +1,28 @@
 -- The machine's way to a token.
-use Rattle.std.specs.Prelude.{◌≡◌, ◌≤◌, ◌-◌, ℕ, List, [], ◌∷◌, ◌++◌, option_map, Bool, true, false, Option, Some, None}
+use Rattle.std.specs.Prelude.{◌≡◌, ℕ, List, [], ◌∷◌, ◌++◌, option_map, Bool, true, false, Option, Some, None}
 use Rattle.note_read.specs.Values.{weighed_of}
 use Rattle.note_read.specs.declared.machine.Machine.{Machine}
-use Rattle.note_read.specs.declared.machine.Next.{Next}
-use Rattle.note_read.specs.declared.machine.Next.TheVariants as next
 use Rattle.note_read.specs.declared.machine.Fed.{Fed}
 use Rattle.note_read.specs.declared.machine.Fed.TheVariants as fed_as
-use Rattle.reading_table.specs.Machine.{feed, hush, apply}
+use Rattle.reading_table.specs.Machine.{feed, hush, apply, perform}
 use Rattle.reading_table.specs.Reading.{reading_table, deepest}
 use Rattle.reading_table.specs.Rows.{Placed}
 use Rattle.reading_table.specs.States.{Token}
 use Rattle.reading_table.specs.Tables.{token}
 use Rattle.reading_table.specs.Weighed.{Weighed, weighed_table, Progress, with_token, is_within}
 
--- what a token makes of a stack and what has been read, by parts within each other at most so deep
-abbrev pub fed : ℕ → Token → List Placed → Weighed → Option (List Placed × Weighed)
-fed depth t ss w = feed weighed_table depth ss w t
+-- what a token makes of a stack and what has been read
+abbrev pub fed : Token → List Placed → Weighed → Option (List Placed × Weighed)
+fed t ss w = feed weighed_table deepest ss w t
 
--- what the token makes of the machine before is what it makes of the one after
-abbrev pub Advances : ℕ → Token → Machine → Next → Machine → Type 0
-Advances depth t a (next.Token note s) b = (reading_table.view (note, s) ≡ token) × (fed depth t a.stack (weighed_of a.values) ≡ fed depth t ((note, s) ∷ b.stack) (weighed_of b.values))
-Advances depth t a next.Row b = (1 ≤ depth) × (fed depth t a.stack (weighed_of a.values) ≡ fed (depth - 1) t b.stack (weighed_of b.values))
-Advances depth t a next.Refused b = fed depth t a.stack (weighed_of a.values) ≡ None
+-- what comes of this, if the token stands for the symbol, and else nothing does, is what comes of the machine
+abbrev pub StandsAt : Option (List Placed × Weighed) → Token → Option Placed → Machine → Type 0
+StandsAt next t (Some s) m = (reading_table.view s ≡ token) × (next ≡ perform weighed_table (s ∷ m.stack) (weighed_of m.values) t)
+StandsAt next t None m = next ≡ None
 
-abbrev pub Feeds : ℕ → Token → Machine → Bool → Machine → Type 0
-Feeds depth t a true b = fed depth t a.stack (weighed_of a.values) ≡ Some (b.stack, weighed_of b.values)
-Feeds depth t a false b = fed depth t a.stack (weighed_of a.values) ≡ None
+abbrev pub Feeds : Token → Machine → Bool → Machine → Type 0
+Feeds t a true b = fed t a.stack (weighed_of a.values) ≡ Some (b.stack, weighed_of b.values)
+Feeds t a false b = fed t a.stack (weighed_of a.values) ≡ None
 
 -- where the machine stands
 abbrev pub progress_of : Machine → Progress

@@ -1,16 +1,19 @@
-// Which row of a part begins with a token.
-ghost use Rattle.std.specs.Prelude.{◌≡◌, Bool, is_some, option_map};
+// What a part is unfolded to, so that it begins with a token.
+ghost use Rattle.std.specs.Prelude.{◌≡◌, ◌++◌, Bool, Some, option_map, IfOk, OnOk};
 ghost use Rattle.ada_tree.specs.Choices.{has_side};
-ghost use Rattle.note_read.specs.Choosing.{line_begins, begins, chosen};
 ghost use Rattle.note_read.specs.Lexemes.{token_of};
 ghost use Rattle.note_read.specs.Views.{IsSeenAs};
-ghost use Rattle.note_read.specs.Rows.{first_row};
-ghost use Rattle.reading_table.specs.Reading.{reading_table};
+ghost use Rattle.note_read.specs.Rows.{first_lead};
+ghost use Rattle.reading_table.specs.Machine.{both, before, lead, enter};
 ghost use Rattle.reading_table.specs.Rows.{turned, side_in, placed, silence};
+ghost use Rattle.reading_table.specs.Weighed.{weighed_table};
 
 use crate::lexeme::Token;
+use crate::stack::{Line, Stack, push_row};
 use ada_tree::Side;
+use base_kit::Memory;
 use reading_table::{Row, Rule, Symbol, Tokens, entry};
+use std::alloc::Global;
 
 fn turned(side: Side, note: bool) -> bool
     ensures { result ≡ turned side note }
@@ -72,70 +75,109 @@ fn has_side(note: bool, side: Side) -> bool
     }
 }
 
-// Tells whether the part may be read as nothing.
-fn may_be_nothing(rule: Rule) -> bool
-    ensures { (note : Bool) → result ≡ is_some (silence (side_in note rule, rule)) }
+// The line, with these symbols on this side behind it.
+fn with_rest(alloc: Global, line: &Line, note: bool, rest: &[Symbol]) -> Result<Line, Memory>
+    ensures { IfOk result (λ whole. whole ≡ line.now ++ placed note rest.now) }
 {
-    silence(rule).is_some()
+    let mut whole = Stack::new(alloc);
+    push_row(&mut whole, note, rest)?;
+    whole.push_all(line)?;
+    Ok(whole)
 }
 
-// The line, on this side, can begin with the token, by parts within each other at most so deep.
-#[cycle(choosing)]
-#[tactic(auto, using(crate::proofs::Lines::begins_token, crate::proofs::Lines::begins_quiet, crate::proofs::Lines::begins_part))]
-fn line_begins(depth: u8, note: bool, line: &[Symbol], token: &Token) -> bool
-    ensures { result ≡ line_begins reading_table (begins reading_table depth (token_of token.now)) (token_of token.now) (placed note line.now) }
+// These symbols on this side, before what they lead to, if they lead to something.
+fn with_front(note: bool, front: &[Symbol], rest: Option<Line>) -> Result<Option<Line>, Memory>
+    ensures { IfOk result (λ whole. whole ≡ both (Some (placed note front.now)) rest) }
+{
+    match rest {
+        None => Ok(None),
+        Some(mut line) => {
+            push_row(&mut line, note, front)?;
+            Ok(Some(line))
+        }
+    }
+}
+
+// What the line, on this side, is unfolded to, so that it begins with the token, by parts within each
+// other at most so deep.
+#[cycle(leading)]
+#[tactic(auto, using(crate::proofs::Lines::leads_token, crate::proofs::Lines::leads_quiet, crate::proofs::Lines::leads_part, crate::proofs::Lines::leads_behind, crate::proofs::Lines::leads_nowhere))]
+fn lead(
+    alloc: Global,
+    depth: u8,
+    note: bool,
+    line: &[Symbol],
+    token: &Token,
+) -> Result<Option<Line>, Memory>
+    ensures { IfOk result (λ led. led ≡ lead weighed_table (enter weighed_table depth) (token_of token.now) (placed note line.now)) }
 {
     match line.split_first() {
-        None => false,
+        None => Ok(None),
         Some((symbol, rest)) => match seen(*symbol) {
-            View::Token(set) => token.may_be(note, set),
-            View::Quiet => line_begins(depth, note, rest, token),
-            View::Part(rule) => {
-                part_begins(depth, note, rule, token)
-                    || may_be_nothing(rule) && line_begins(depth, note, rest, token)
+            View::Token(set) => {
+                if !token.may_be(note, set) {
+                    return Ok(None);
+                }
+                with_front(note, line, Some(Stack::new(alloc)))
             }
+            View::Quiet => {
+                let led = lead(alloc, depth, note, rest, token)?;
+                with_front(note, &[*symbol], led)
+            }
+            View::Part(rule) => match enter(alloc, depth, note, rule, token)? {
+                Some(line) => Ok(Some(with_rest(alloc, &line, note, rest)?)),
+                None => match silence(rule) {
+                    None => Ok(None),
+                    Some(quiet) => {
+                        let led = lead(alloc, depth, note, rest, token)?;
+                        with_front(side_in(note, rule), quiet, led)
+                    }
+                },
+            },
         },
     }
 }
 
-#[cycle(choosing)]
-fn part_begins(depth: u8, note: bool, rule: Rule, token: &Token) -> bool
-    ensures { result ≡ begins reading_table depth (token_of token.now) (side_in note rule, rule) }
-{
-    row_for(depth, note, rule, token).is_some()
-}
-
-// The first of these rows, on this side, that can begin with the token.
-#[cycle(choosing)]
-fn first_row(
+// What the first of these rows that can begin with the token, on this side, is unfolded to.
+#[cycle(leading)]
+fn first_lead(
+    alloc: Global,
     depth: u8,
     note: bool,
     rows: &'static [Row],
     token: &Token,
-) -> Option<&'static [Symbol]>
-    ensures { option_map (λ row. placed note row.now) result
-        ≡ first_row (line_begins reading_table (begins reading_table depth (token_of token.now)) (token_of token.now)) note rows.now }
+) -> Result<Option<Line>, Memory>
+    ensures { IfOk result (λ led. led ≡ first_lead (lead weighed_table (enter weighed_table depth) (token_of token.now)) note rows.now) }
 {
     for (side, row) in rows {
-        if has_side(note, *side) && line_begins(depth, note, row, token) {
-            return Some(*row);
+        if has_side(note, *side) {
+            let led = lead(alloc, depth, note, row, token)?;
+            if led.is_some() {
+                return Ok(led);
+            }
         }
     }
-    None
+    Ok(None)
 }
 
-/// The first row of the part, on this side, that can begin with the token, by parts within each other
-/// at most so deep.
-#[cycle(choosing)]
-#[tactic(auto, using(crate::proofs::Rows::chosen_none, crate::proofs::Rows::chosen_some))]
-pub fn row_for(depth: u8, note: bool, rule: Rule, token: &Token) -> Option<&'static [Symbol]>
-    ensures { option_map (λ row. placed (side_in note rule) row.now) result ≡ chosen reading_table depth (token_of token.now) (side_in note rule, rule) }
+/// What the part is unfolded to, so that it begins with the token, by parts within each other at most so
+/// deep.
+#[cycle(leading)]
+#[tactic(auto, using(crate::proofs::Rows::entered_none, crate::proofs::Rows::entered_some))]
+pub fn enter(
+    alloc: Global,
+    depth: u8,
+    note: bool,
+    rule: Rule,
+    token: &Token,
+) -> Result<Option<Line>, Memory>
+    ensures { IfOk result (λ led. led ≡ enter weighed_table depth (side_in note rule, rule) (token_of token.now)) }
 {
     if depth == 0 {
-        return None;
+        return Ok(None);
     }
     match entry(rule) {
-        None => None,
-        Some(entry) => first_row(depth - 1, side_in(note, rule), entry.3, token),
+        None => Ok(None),
+        Some(entry) => first_lead(alloc, depth - 1, side_in(note, rule), entry.3, token),
     }
 }

@@ -175,7 +175,8 @@ fn has_form(form: Form, name: &[u8]) -> bool
     arguments == arguments_in(form)
 }
 
-fn rule_named(rows: &[(ProofRule, &str, &[Argument])], name: &[u8]) -> Option<ProofRule>
+/// The rule of proof of this name, in any case.
+pub fn rule_named(rows: &[(ProofRule, &str, &[Argument])], name: &[u8]) -> Option<ProofRule>
     ensures { result ≡ first_value (λ row. row.0) (λ row. bytes_eq row.1.now (map to_ascii_lowercase name.now)) rows.now }
 {
     for (rule, written, _) in rows {

@@ -1,28 +1,29 @@
 // Reading from the left, one token at a time.
-ghost use Rattle.std.specs.Prelude.{◌≡◌, ◌++◌, ◌≤◌, nat_le, option_map, IfOk, OnOk};
+ghost use Rattle.std.specs.Prelude.{◌≡◌, ◌≤◌, nat_le, option_map, IfOk, OnOk};
 ghost use Rattle.reading_table.specs.Rows.{placed};
 
-use crate::choosing::{View, row_for, seen, side_in, silence};
+use crate::choosing::{View, seen, silence};
 use crate::lexeme::Token;
 use crate::masses::{highest, open_behind, open_within, rise};
-use crate::stack::Stack;
-use crate::values::Values;
-use ada_tree::{MOST_NESTED, MOST_NESTED_STEPS, MOST_OPEN};
+use crate::sight::sight_of;
+use crate::stack::{Line, Stack, push_row};
+use crate::values::{Values, passes};
+use crate::ways::{Way, Ways};
+use ada_tree::{Counts, MOST_NESTED, MOST_NESTED_STEPS, MOST_OPEN};
 use base_kit::{Memory, Text};
 use reading_table::{Height, Symbol};
 use std::alloc::Global;
-
-// Parts that begin a row, and those that begin their rows, and so on, stand within each other less deep.
-const DEEPEST: u8 = 13;
 
 /// What is still to be read, and what has been read.
 #[derive(Drop)]
 pub struct Machine {
     /// The symbols, each with its side.
-    stack: Stack<(bool, Symbol)>,
+    stack: Line,
     values: Values,
     /// How many are open.
     parentheses: usize,
+    /// How parts were read where tokens came before.
+    ways: Ways,
     ghost few: { parentheses ≤ 64 },
 }
 
@@ -36,36 +37,16 @@ pub enum Fed {
     Admitted,
 }
 
-// What comes next on the way to a token.
-#[derive(Clone, Copy)]
-enum Next {
-    /// The token must stand for this symbol, on its side.
-    Token(bool, Symbol),
-    /// A part was replaced by its row that can begin with the token.
-    Row,
-    /// Nothing here can begin with the token.
-    Refused,
-}
-
-fn push_row(stack: &mut Stack<(bool, Symbol)>, note: bool, row: &[Symbol]) -> Result<(), Memory>
-    ensures { OnOk result (stack.new ≡ placed note row.now ++ stack.old) }
-{
-    let mut rest = row;
-    while let Some((symbol, front)) = rest.split_last() {
-        stack.push((note, *symbol))?;
-        rest = front;
-    }
-    Ok(())
-}
-
 impl Machine {
+    ghost use Rattle.note_read.specs.Bare.{thinned};
     ghost use Rattle.note_read.specs.Lexemes.{token_of};
-    ghost use Rattle.note_read.specs.Machines.{Advances, Feeds, FeedsWithin, nothing_read, commented, ended, progress_of, with_open};
+    ghost use Rattle.note_read.specs.Machines.{fed, StandsAt, Feeds, FeedsWithin, nothing_read, commented, ended, progress_of, with_open};
     ghost use Rattle.note_read.specs.Values.{weighed_of};
     ghost use Rattle.reading_table.specs.Heights.{highest, least};
     ghost use Rattle.reading_table.specs.Limits.{widest};
-    ghost use Rattle.reading_table.specs.Reading.{deepest};
-    ghost use Rattle.reading_table.specs.Weighed.{is_within};
+    ghost use Rattle.reading_table.specs.Machine.{perform};
+    ghost use Rattle.reading_table.specs.States.{Token as TheToken};
+    ghost use Rattle.reading_table.specs.Weighed.{is_within, weighed_table};
 
     /// Nothing has been read, and these symbols are to be read, on this side.
     pub fn new(alloc: Global, note: bool, line: &[Symbol]) -> Result<Self, Memory>
@@ -78,6 +59,7 @@ impl Machine {
             stack,
             values,
             parentheses: 0,
+            ways: Ways::new(alloc)?,
         })
     }
 
@@ -88,39 +70,72 @@ impl Machine {
         self.values.wait(comment)
     }
 
-    // Goes on to the next symbol of a token, or to the next row.
-    #[tactic(auto, using(crate::proofs::Advances::quiet_fed, crate::proofs::Advances::row_fed, crate::proofs::Advances::silent_fed, crate::proofs::Advances::refused_fed))]
-    fn advance(&mut self, alloc: Global, depth: u8, token: &Token) -> Result<Next, Memory>
-        ensures { IfOk result (λ next. Advances depth (token_of token.now) self.old next self.new) }
+    /// Where there are more nodes than the limit, here and among those that were lost, drops what no
+    /// reading looks at. It answers how many nodes are lost then.
+    pub fn thin_out(
+        &mut self,
+        alloc: Global,
+        most: Option<Counts>,
+        lost: Counts,
+    ) -> Result<Counts, Memory>
+        ensures { IfOk result (λ more. (progress_of self.new, more) ≡ thinned most (progress_of self.old) lost) }
+    {
+        if passes(most, self.values.counts_with(lost)) {
+            self.values.thin_out(alloc, lost)
+        } else {
+            Ok(lost)
+        }
+    }
+
+    // Does what the symbols say up to the next one of a token, and takes that.
+    #[tactic(auto, using(crate::proofs::Advances::quiet_performed, crate::proofs::Advances::part_performed))]
+    fn perform(&mut self, alloc: Global) -> Result<Option<(bool, Symbol)>, Memory>
+        ensures { (t : TheToken) → IfOk result (λ next. StandsAt (perform weighed_table self.old.stack (weighed_of self.old.values) t) t next self.new) }
     {
         while let Some((note, symbol)) = self.stack.pop() {
             match seen(symbol) {
-                View::Token(_) => return Ok(Next::Token(note, symbol)),
+                View::Token(_) => return Ok(Some((note, symbol))),
                 View::Quiet => self.values.act(alloc, symbol)?,
-                View::Part(rule) => match row_for(depth, note, rule, token) {
-                    Some(row) => {
-                        push_row(&mut self.stack, side_in(note, rule), row)?;
-                        return Ok(Next::Row);
-                    }
-                    None => match silence(rule) {
-                        None => return Ok(Next::Refused),
-                        Some(line) => self.values.act_all(alloc, line)?,
-                    },
-                },
+                View::Part(_) => return Ok(None),
             }
         }
-        Ok(Next::Refused)
+        Ok(None)
     }
 
-    #[tactic(auto, using(crate::proofs::Advances::token_fed))]
-    fn feed_within(&mut self, alloc: Global, depth: u8, token: Token) -> Result<bool, Memory>
-        ensures { IfOk result (λ admitted. Feeds depth (token_of token) self.old admitted self.new) }
+    // Goes on to the symbol that the token must stand for, and takes it; none where nothing here can begin
+    // with the token.
+    #[tactic(auto, using(crate::proofs::Advances::quiet_fed, crate::proofs::Advances::token_fed))]
+    fn advance(&mut self, alloc: Global, token: &Token) -> Result<Option<(bool, Symbol)>, Memory>
+        ensures { IfOk result (λ next. StandsAt (fed (token_of token.now) self.old.stack (weighed_of self.old.values)) (token_of token.now) next self.new) }
     {
-        match self.advance(alloc, depth, &token)? {
-            Next::Refused => Ok(false),
-            Next::Token(note, symbol) => self.values.take(alloc, note, symbol, token),
-            Next::Row if depth > 0 => self.feed_within(alloc, depth - 1, token),
-            Next::Row => Ok(false),
+        let sight = sight_of(token);
+        while let Some((note, symbol)) = self.stack.pop() {
+            match seen(symbol) {
+                View::Token(_) => return Ok(Some((note, symbol))),
+                View::Quiet => self.values.act(alloc, symbol)?,
+                View::Part(rule) => {
+                    let number = self.ways.find(alloc, note, rule, token, sight)?;
+                    match self.ways.at(number) {
+                        Way::Line(line) => {
+                            self.stack.push_all(line)?;
+                            return self.perform(alloc);
+                        }
+                        Way::Silent(quiet) => self.values.act_all(alloc, quiet)?,
+                        Way::Refused => return Ok(None),
+                    }
+                }
+            }
+        }
+        Ok(None)
+    }
+
+    #[tactic(auto, using(crate::proofs::Advances::token_performed))]
+    fn feed_within(&mut self, alloc: Global, token: Token) -> Result<bool, Memory>
+        ensures { IfOk result (λ admitted. Feeds (token_of token) self.old admitted self.new) }
+    {
+        match self.advance(alloc, &token)? {
+            None => Ok(false),
+            Some((note, symbol)) => self.values.take(alloc, note, symbol, token),
         }
     }
 
@@ -174,7 +189,7 @@ impl Machine {
         ensures { IfOk result (λ fed. FeedsWithin round (token_of token) self.old fed self.new) }
     {
         let parentheses = token.lexeme.open_after(self.parentheses);
-        if !self.feed_within(alloc, DEEPEST, token)? {
+        if !self.feed_within(alloc, token)? {
             return Ok(Fed::Refused);
         }
         if !self.is_within(alloc, round, parentheses)? {
@@ -192,7 +207,7 @@ impl Machine {
         let Machine {
             mut stack,
             mut values,
-            parentheses: _,
+            ..
         } = self;
         while let Some((_, symbol)) = stack.pop() {
             match seen(symbol) {

@@ -1,9 +1,10 @@
 // A stack.
 ghost use Rattle.std.specs.Prelude.{◌≡◌, ◌<◌, List, [], ◌∷◌, ◌++◌, take, drop, reverse, length, slice_get, Some, MatchOption, IfOk, OnOk};
 ghost use Rattle.std.specs.Option.{option_copied};
+ghost use Rattle.reading_table.specs.Rows.{placed};
 
 use base_kit::Memory;
-use reading_table::Mass;
+use reading_table::{Mass, Symbol};
 use std::alloc::Global;
 use std::marker::Model;
 
@@ -90,4 +91,30 @@ impl<T: Drop> Stack<T> {
                 .split_off(self.members.len().saturating_sub(count))?,
         )
     }
+}
+
+/// Symbols, each with its side.
+pub type Line = Stack<(bool, Symbol)>;
+
+impl Stack<(bool, Symbol)> {
+    /// Puts the line before what is there.
+    #[tactic(auto, using(crate::proofs::Stacks::line_before))]
+    pub fn push_all(&mut self, line: &Line) -> Result<(), Memory>
+        ensures { OnOk result (self.new ≡ line.now ++ self.old) }
+    {
+        self.members.extend_from_slice(line.members.as_slice())?;
+        Ok(())
+    }
+}
+
+/// Puts the row, on this side, before what is there.
+pub fn push_row(stack: &mut Line, note: bool, row: &[Symbol]) -> Result<(), Memory>
+    ensures { OnOk result (stack.new ≡ placed note row.now ++ stack.old) }
+{
+    let mut rest = row;
+    while let Some((symbol, front)) = rest.split_last() {
+        stack.push((note, *symbol))?;
+        rest = front;
+    }
+    Ok(())
 }

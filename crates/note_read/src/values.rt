@@ -1,5 +1,6 @@
 // What has been read, and what the symbols of the table do with it.
-ghost use Rattle.std.specs.Prelude.{◌≡◌, Bool, [], ◌∷◌, ◌++◌, IsTrue, IfOk, OnOk};
+ghost use Rattle.std.specs.Prelude.{◌≡◌, Bool, [], ◌∷◌, ◌++◌, map, take, IsTrue, IfOk, OnOk};
+ghost use Rattle.note_read.specs.Bare.{bare, kids_held, counts_with, lost_with, passes};
 ghost use Rattle.note_read.specs.Lexemes.{lexeme_of, token_of};
 ghost use Rattle.note_read.specs.Machines.{nothing_read, with_comment};
 ghost use Rattle.note_read.specs.Values.{state_of, weighed_of, with_option, only_node};
@@ -15,11 +16,11 @@ ghost use Rattle.reading_table.specs.States.{text_in, nodes_in, text_held, text_
 use crate::lexeme::{Token, text_from};
 use crate::masses::rise;
 use crate::stack::Stack;
-use ada_tree::{Kids, Kind, Node};
+use ada_tree::{Counts, Kids, Kind, Node, add_counts};
 use base_kit::{Copied, Memory, Names, Text};
 use reading_table::{Held, Mass, Symbol, Tokens};
 use std::alloc::Global;
-use std::mem;
+use std::{mem, slice};
 
 /// The values, what limits see of them, and the comments that no place has taken yet.
 #[derive(Drop)]
@@ -56,6 +57,28 @@ impl Values {
             (Some(Held::Tree(node)), None) => Some(node),
             _ => None,
         }
+    }
+
+    /// Drops the comments and kids of the nodes, which no reading looks at. It answers how many nodes are
+    /// lost then, where so many were lost before.
+    #[tactic(auto, using(crate::proofs::Counting::all_taken))]
+    pub fn thin_out(&mut self, alloc: Global, lost: Counts) -> Result<Counts, Memory>
+        ensures { IfOk result (λ more. (self.new ≡ record self.old { values = map bare self.old.values }) × (more ≡ lost_with lost self.old.values)) }
+    {
+        let count = self.values.len();
+        let (values, lost) = thinned(alloc, &mut self.values, count, lost)?;
+        self.values = values;
+        Ok(lost)
+    }
+
+    /// The counts with the numbers of nodes here.
+    pub fn counts_with(&self, mut counts: Counts) -> Counts
+        ensures { result ≡ counts_with counts self.now.values }
+    {
+        for depth in 0..self.values.len() {
+            add_counts(nodes_of(self.values.at(depth)), &mut counts);
+        }
+        counts
     }
 
     // Does what the symbol says, but for what limits see.
@@ -140,6 +163,70 @@ fn set_of(symbol: Symbol) -> Tokens
     match symbol {
         Symbol::Take(set) | Symbol::Keep(set) => set,
         _ => Tokens::Name,
+    }
+}
+
+/// Tells whether one of the counts is past its limit, if there is a limit.
+pub fn passes(most: Option<Counts>, counts: Counts) -> bool
+    ensures { result ≡ passes most counts }
+{
+    match most {
+        None => false,
+        Some(most) => counts.tree > most.tree || counts.proof > most.proof,
+    }
+}
+
+// The value without comments and kids.
+fn bare(alloc: Global, value: Held) -> Held
+    ensures { result ≡ bare value }
+{
+    match value {
+        Held::Text(text) => Held::Text(text),
+        Held::Comments(comments) => Held::Comments(comments),
+        Held::Tree(Node { kind, text, .. }) => Held::Tree(Node {
+            kind,
+            text,
+            notes: Names::new(alloc),
+            kids: Kids::new(alloc),
+        }),
+    }
+}
+
+// The last values, so many or all, without comments and kids; and how many nodes are lost then.
+fn thinned(
+    alloc: Global,
+    values: &mut Stack<Held>,
+    count: usize,
+    mut lost: Counts,
+) -> Result<(Stack<Held>, Counts), Memory>
+    ensures values { IfOk result (λ thinned. thinned.0 ≡ map bare (take count values.old)) }
+    ensures lost { IfOk result (λ thinned. thinned.1 ≡ lost_with lost (take count values.old)) }
+{
+    let mut thinned = Stack::new(alloc);
+    for value in values.take_last(count)? {
+        add_counts(kids_of(&value), &mut lost);
+        thinned.push(bare(alloc, value))?;
+    }
+    Ok((thinned, lost))
+}
+
+fn kids_of(value: &Held) -> &[Node]
+    ensures { result.now ≡ kids_held value.now }
+{
+    match value {
+        Held::Text(_) => &[],
+        Held::Comments(_) => &[],
+        Held::Tree(node) => node.kids.as_slice(),
+    }
+}
+
+fn nodes_of(value: &Held) -> &[Node]
+    ensures { result.now ≡ nodes_in (value.now ∷ []) }
+{
+    match value {
+        Held::Text(_) => &[],
+        Held::Comments(_) => &[],
+        Held::Tree(node) => slice::from_ref(node),
     }
 }
 

@@ -7,6 +7,7 @@ pub mod Finishing
 pub mod Keeping
 pub mod Law
 pub mod Needs
+pub mod Once
 pub mod Opens
 pub mod Order
 pub mod Outlines

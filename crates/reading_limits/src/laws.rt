@@ -38,3 +38,17 @@ pub fn limits_need_no_look_at_trees()
     ensures { (round : ℕ) (part : APart) (signs : List Sign)
         → has_texts part ≡ true → read_weighed round part signs ≡ read_within round part signs }
 {}
+
+/// A text of a part is read, or reading stops in it at one place and for one reason.
+pub fn reading_ends_in_one_way()
+    ensures stopped { (round : ℕ) (part : APart) (signs : List Sign) (m n : ℕ)
+        → GoesOnWithin round part [] → StopsAt round part signs m → StopsAt round part signs n → m ≡ n }
+    ensures limited { (round : ℕ) (part : APart) (signs : List Sign) (m n : ℕ)
+        → GoesOnWithin round part [] → IsLimitedAt round part signs m → IsLimitedAt round part signs n → m ≡ n }
+    ensures one_reason { (round : ℕ) (part : APart) (signs : List Sign) (m n : ℕ)
+        → GoesOnWithin round part [] → StopsAt round part signs m → IsLimitedAt round part signs n → ⊥ }
+    ensures not_stopped { (round : ℕ) (part : APart) (signs : List Sign) (node : ANode) (n : ℕ)
+        → ReadsWithin round part signs node → StopsAt round part signs n → ⊥ }
+    ensures not_limited { (round : ℕ) (part : APart) (signs : List Sign) (node : ANode) (n : ℕ)
+        → ReadsWithin round part signs node → IsLimitedAt round part signs n → ⊥ }
+{}

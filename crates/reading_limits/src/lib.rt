@@ -8,5 +8,6 @@
 mod laws;
 
 pub use laws::{
-    limits_need_no_look_at_trees, reading_stops_at_the_first_token, the_table_reads_within_limits,
+    limits_need_no_look_at_trees, reading_ends_in_one_way, reading_stops_at_the_first_token,
+    the_table_reads_within_limits,
 };

@@ -1,27 +1,34 @@
 use Rattle.std.proofs.Common.{rules, subst}
-use Rattle.note_read.proofs.Advances.{row_fed, silent_fed, refused_fed}
+use Rattle.note_read.proofs.Advances.{line_fed, silent_fed, refused_fed}
 use Rattle.note_read.specs.Lexemes.{token_of}
 use Rattle.note_read.specs.Values.{weighed_of}
 use Rattle.note_read.specs.Views.{IsSeenAs}
+use Rattle.note_read.specs.Ways.{IsWay}
+use Rattle.reading_table.specs.Rows.{side_in}
 use Rattle.note_read.proofs.machine.Machine.advance.Goals as goal
 
-pub returns-in-Some-row_for : goal.returns-in-Some-row_for
-returns-in-Some-row_for c =
+pub returns-in-Line : goal.returns-in-Line
+returns-in-Line c =
+    let t = token_of c.args.token.now in
     let seen = subst (IsSeenAs c.in-Some.note c.in-Some.symbol) c.in-Part.is (c.seen.ensures c.in-Some.note) in
-    let fed = row_fed c.args.depth (token_of c.args.token.now) c.in-Some.note c.in-Some.symbol c.in-Part.rule c.pop.new.self (weighed_of c.loop-note.self.values) c.row_for.result c.in-Some-row_for.row seen c.row_for.ensures
-    c.in-Some-row_for.is in
-    (fed.0, search (rules, fed.1))
-
-pub returns-in-None-silence : goal.returns-in-None-silence
-returns-in-None-silence c =
-    let seen = subst (IsSeenAs c.in-Some.note c.in-Some.symbol) c.in-Part.is (c.seen.ensures c.in-Some.note) in
-    let fed = refused_fed c.args.depth (token_of c.args.token.now) c.in-Some.note c.in-Some.symbol c.in-Part.rule c.pop.new.self (weighed_of c.loop-note.self.values) c.row_for.result c.silence.result seen c.row_for.ensures
-    c.in-None.is (c.silence.ensures c.in-Some.note) c.in-None-silence.is in
-    search (rules, fed)
+    let way = subst (IsWay c.in-Some.note c.in-Part.rule t) c.in-Line.is (c.at.ensures c.in-Some.note c.in-Part.rule t c.in_ok-number-in-Part.ensures.found) in
+    let fed = line_fed t c.in-Some.note c.in-Some.symbol c.in-Part.rule c.pop.new.self (weighed_of c.loop-note.self.values) c.in-Line.line seen way in
+    let performed = c.perform.ensures t in
+    search (rules, fed, performed)
 
 pub loop-note-preserved : goal.loop-note-preserved
 loop-note-preserved c =
+    let t = token_of c.args.token.now in
     let seen = subst (IsSeenAs c.in-Some.note c.in-Some.symbol) c.in-Part.is (c.seen.ensures c.in-Some.note) in
-    let fed = silent_fed c.args.depth (token_of c.args.token.now) c.in-Some.note c.in-Some.symbol c.in-Part.rule c.pop.new.self (weighed_of c.loop-note.self.values) c.row_for.result c.silence.result c.in-Some-silence.line seen
-    c.row_for.ensures c.in-None.is (c.silence.ensures c.in-Some.note) c.in-Some-silence.is in
+    let way = subst (IsWay c.in-Some.note c.in-Part.rule t) c.in-Silent.is (c.at.ensures c.in-Some.note c.in-Part.rule t c.in_ok-number-in-Part.ensures.found) in
+    let fed = silent_fed t c.in-Some.note c.in-Some.symbol c.in-Part.rule c.pop.new.self (weighed_of c.loop-note.self.values) c.in-Silent.quiet seen way in
+    let acted = c.in_ok-act_all-in-Silent.ensures (side_in c.in-Some.note c.in-Part.rule) in
+    search (rules, fed, acted)
+
+pub returns-in-Refused : goal.returns-in-Refused
+returns-in-Refused c =
+    let t = token_of c.args.token.now in
+    let seen = subst (IsSeenAs c.in-Some.note c.in-Some.symbol) c.in-Part.is (c.seen.ensures c.in-Some.note) in
+    let way = subst (IsWay c.in-Some.note c.in-Part.rule t) c.in-Refused.is (c.at.ensures c.in-Some.note c.in-Part.rule t c.in_ok-number-in-Part.ensures.found) in
+    let fed = refused_fed t c.in-Some.note c.in-Some.symbol c.in-Part.rule c.pop.new.self (weighed_of c.loop-note.self.values) seen way in
     search (rules, fed)

@@ -6,7 +6,7 @@ use Rattle.note_read.specs.Values.{weighed_of}
 
 -- the token makes of the machine what it made of it at first
 abbrev pub invariant-loop-note : goal.invariant-loop-note
-invariant-loop-note l = fed l.depth (token_of l.token) l.fn.self.stack (weighed_of l.fn.self.values) ≡ fed l.depth (token_of l.token) l.self.stack (weighed_of l.self.values)
+invariant-loop-note l = fed (token_of l.token) l.fn.self.stack (weighed_of l.fn.self.values) ≡ fed (token_of l.token) l.self.stack (weighed_of l.self.values)
 
 abbrev pub decreases-loop-note : goal.decreases-loop-note
 decreases-loop-note l = length l.self.stack

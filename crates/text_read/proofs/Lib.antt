@@ -1,0 +1,5 @@
+pub mod Ends
+pub mod Files
+pub mod Lines
+pub mod Once
+pub mod Texts
