@@ -12,8 +12,6 @@ use std::test::Fail;
 const USAGE: &str =
     "usage: penelope check FILES | print FILES | edit FILES --script FILE | grow N\n";
 
-const NOT_OF_THE_FORM: &str = "fault F23 file 1 line 1\n";
-
 const SET: &str = "procedure SET (X, Y : in out INTEGER)
 --| where in Y = 3; out X = 3; out Y = in Y; end where;
 is begin X := Y; end SET;
@@ -157,6 +155,11 @@ const FILES: &[(&str, &str)] = &[
         "procedure P (WHERE, X : in out INTEGER)\n--| where in X = X; end where;\nis begin WHERE := 007; X := WHERE; end P;",
         "unit P incomplete\n  entry.1 open\n    var WHERE : INTEGER\n    var X : INTEGER\n    hyp 1 : X = X\n    goal true\n",
     ),
+    // What spells the same tree is the same: parentheses, comments, the name at the end.
+    (
+        "procedure SET (X, Y : in out INTEGER)\n--| where in (Y) = 3; out (X = 3); out Y = (in Y); end where;\nis begin X := ((((((((((((((((((((((((((((((((((((((((((((((((((((((((((((((((Y)))))))))))))))))))))))))))))))))))))))))))))))))))))))))))))))); -- so\nend;",
+        SET_REPORT,
+    ),
 ];
 
 fn is_reported(alloc: Global, file: &str, text: &str) -> Result<bool, Memory> {
@@ -176,55 +179,169 @@ fn files_are_reported(rt: HostRuntime) {
     assert_eq!(rt; first_misreported(rt.alloc()), None);
 }
 
-const OTHER_FILES: &[&str] = &[
-    "procedure SET (X, Y : in out INTEGER)\n--| where in Y = 3; out X = 3; out Y = in Y; end where;\nis begin X := Z; end SET;\n",
-    "procedure SET (X, Y : in out INTEGER)\n--| where in Y = 3; out X = 3; out Y = in Y; end where;\nis begin X := Y + 1; end SET;\n",
-    "procedure SET (X, Y : in out INTEGER)\n--| where in Y = 3; out X = 3; out Y = in Y; end where;\nis begin",
-    "procedure P (X, X : in out INTEGER) is begin null; end;",
-    "procedure P (X : in out INTEGER; x : in out INTEGER) is begin null; end;",
-    "procedure P (INTEGER : in out INTEGER) is begin null; end;",
-    "procedure P (X : in out NATURAL) is begin null; end;",
-    "procedure P (X : in INTEGER) is begin null; end;",
-    "procedure P (X : in out INTEGER) is begin Y := 1; end;",
-    "procedure P (X : in out INTEGER) is begin end;",
-    "procedure P (X : in out INTEGER) is begin null; end Q;",
-    "procedure P (X : in out INTEGER) is begin null; end; null",
-    "procedure P (X : in out INTEGER) is begin X := 2147483648; end;",
-    "procedure P (X : in out INTEGER) is begin X := 0000000000000000001; end;",
-    "procedure P (X : in out INTEGER) is begin X := 1__0; end;",
-    "procedure P (X : in out INTEGER) is begin X := 1_; end;",
-    "procedure P (X : in out INTEGER) is begin X : = 1; end;",
-    "procedure P (X_ : in out INTEGER) is begin null; end;",
-    "procedure P (_X : in out INTEGER) is begin null; end;",
-    "procedure P (LOOP : in out INTEGER) is begin null; end;",
-    "procedure P () is begin null; end;",
-    "procedure P (X : in out INTEGER) where end where; is begin null; end;",
-    "procedure P (X : in out INTEGER)\n--| is begin null; end;",
-    "procedure P (X : in out INTEGER)\n--| where in in X = 1; end where;\nis begin null; end;",
-    "procedure P (X : in out INTEGER)\n--| where out X == 1; end where;\nis begin null; end;",
-    "procedure P (X : in out INTEGER)\n--| where out X = Y; end where;\nis begin null; end;",
-    "procedure P (X : in out INTEGER)\n--| where out X = 1; end;\nis begin null; end;",
-    "procedure P (X : in out INTEGER) is begin null; end;\n--| where end where;",
-    "\u{1}",
-    "#",
-    "-",
+// The line of a file whose first item isn't taken.
+const UNSUPPORTED: &str = "fault F23 at 0.0\n";
+
+// A file, and the line of its fault.
+const FAULTY_FILES: &[(&str, &str)] = &[
+    (
+        "procedure SET (X, Y : in out INTEGER)\n--| where in Y = 3; out X = 3; out Y = in Y; end where;\nis begin X := Z; end SET;\n",
+        UNSUPPORTED,
+    ),
+    (
+        "procedure SET (X, Y : in out INTEGER)\n--| where in Y = 3; out X = 3; out Y = in Y; end where;\nis begin X := Y + 1; end SET;\n",
+        UNSUPPORTED,
+    ),
+    (
+        "procedure SET (X, Y : in out INTEGER)\n--| where in Y = 3; out X = 3; out Y = in Y; end where;\nis begin",
+        "fault F03 file 1 line 3\n",
+    ),
+    (
+        "procedure P (X, X : in out INTEGER) is begin null; end;",
+        UNSUPPORTED,
+    ),
+    (
+        "procedure P (X : in out INTEGER; x : in out INTEGER) is begin null; end;",
+        UNSUPPORTED,
+    ),
+    (
+        "procedure P (INTEGER : in out INTEGER) is begin null; end;",
+        UNSUPPORTED,
+    ),
+    (
+        "procedure P (X : in out NATURAL) is begin null; end;",
+        UNSUPPORTED,
+    ),
+    (
+        "procedure P (X : in INTEGER) is begin null; end;",
+        UNSUPPORTED,
+    ),
+    (
+        "procedure P (X : in out INTEGER) is begin Y := 1; end;",
+        UNSUPPORTED,
+    ),
+    (
+        "procedure P (X : in out INTEGER) is begin end;",
+        "fault F03 file 1 line 1\n",
+    ),
+    (
+        "procedure P (X : in out INTEGER) is begin null; end Q;",
+        "fault F03 file 1 line 1\n",
+    ),
+    (
+        "procedure P (X : in out INTEGER) is begin null; end; null",
+        "fault F03 file 1 line 1\n",
+    ),
+    (
+        "procedure P (X : in out INTEGER) is begin X := 2147483648; end;",
+        UNSUPPORTED,
+    ),
+    (
+        "procedure P (X : in out INTEGER) is begin X := 0000000000000000001; end;",
+        "fault F02 file 1 line 1\n",
+    ),
+    (
+        "procedure P (X : in out INTEGER) is begin X := 1__0; end;",
+        "fault F02 file 1 line 1\n",
+    ),
+    (
+        "procedure P (X : in out INTEGER) is begin X := 1_; end;",
+        "fault F02 file 1 line 1\n",
+    ),
+    (
+        "procedure P (X : in out INTEGER) is begin X : = 1; end;",
+        "fault F03 file 1 line 1\n",
+    ),
+    (
+        "procedure P (X_ : in out INTEGER) is begin null; end;",
+        "fault F02 file 1 line 1\n",
+    ),
+    (
+        "procedure P (_X : in out INTEGER) is begin null; end;",
+        "fault F02 file 1 line 1\n",
+    ),
+    (
+        "procedure P (LOOP : in out INTEGER) is begin null; end;",
+        "fault F03 file 1 line 1\n",
+    ),
+    (
+        "procedure P () is begin null; end;",
+        "fault F03 file 1 line 1\n",
+    ),
+    (
+        "procedure P (X : in out INTEGER) where end where; is begin null; end;",
+        "fault F03 file 1 line 1\n",
+    ),
+    (
+        "procedure P (X : in out INTEGER)\n--| is begin null; end;",
+        "fault F03 file 1 line 2\n",
+    ),
+    (
+        "procedure P (X : in out INTEGER)\n--| where in in X = 1; end where;\nis begin null; end;",
+        UNSUPPORTED,
+    ),
+    (
+        "procedure P (X : in out INTEGER)\n--| where out X == 1; end where;\nis begin null; end;",
+        "fault F03 file 1 line 2\n",
+    ),
+    (
+        "procedure P (X : in out INTEGER)\n--| where out X = Y; end where;\nis begin null; end;",
+        UNSUPPORTED,
+    ),
+    (
+        "procedure P (X : in out INTEGER)\n--| where out X = 1; end;\nis begin null; end;",
+        "fault F03 file 1 line 2\n",
+    ),
+    (
+        "procedure P (X : in out INTEGER) is begin null; end;\n--| where end where;",
+        "fault F03 file 1 line 2\n",
+    ),
+    ("\u{1}", "fault F01 file 1 line 1\n"),
+    ("#", "fault F02 file 1 line 1\n"),
+    ("-", "fault F03 file 1 line 1\n"),
+    // So many parentheses can be open, and no more.
+    (
+        "procedure P (X : in out INTEGER) is\nbegin\n   X := (((((((((((((((((((((((((((((((((((((((((((((((((((((((((((((((((X)))))))))))))))))))))))))))))))))))))))))))))))))))))))))))))))));\nend;",
+        "fault F04 file 1 line 3\n",
+    ),
+    // A form of Ada outside the profile.
+    (
+        "\ngeneric\n   type T is private;\nprocedure P;\n",
+        "fault F23 file 1 line 2\n",
+    ),
+    // Items of another form: a package, a declaration; and a second item.
+    ("package P is\n   N : constant := 1;\nend P;\n", UNSUPPORTED),
+    ("procedure P (X : in out INTEGER);\n", UNSUPPORTED),
+    (
+        "procedure P (X : in out INTEGER) is begin null; end;\nprocedure Q (X : in out INTEGER) is begin null; end;\n",
+        "fault F23 at 0.1\n",
+    ),
+    // The first item that isn't taken counts, and a fault of the text before any item.
+    (
+        "package P is\nend P;\nprocedure Q (X : in out INTEGER) is begin null; end;\n",
+        UNSUPPORTED,
+    ),
+    (
+        "package P is\nend P;\nprocedure Q (X : in out INTEGER) is begin null end;\n",
+        "fault F03 file 1 line 3\n",
+    ),
 ];
 
-fn is_fault(alloc: Global, file: &str) -> Result<bool, Memory> {
+fn has_fault(alloc: Global, file: &str, line: &str) -> Result<bool, Memory> {
     let got = run(alloc, "check a", file.as_bytes(), &NOTHING)?;
-    Ok(gives(&got, NOT_OF_THE_FORM, 3))
+    Ok(gives(&got, line, 3) && got.calls == 1)
 }
 
 // The number of the first row that is wrong.
-fn first_other_than_fault(alloc: Global) -> Option<usize> {
-    OTHER_FILES
+fn first_without_its_fault(alloc: Global) -> Option<usize> {
+    FAULTY_FILES
         .iter()
-        .position(|file| is_fault(alloc, file) != Ok(true))
+        .position(|(file, line)| has_fault(alloc, file, line) != Ok(true))
 }
 
 #[test]
-fn other_files_are_faults(rt: HostRuntime) {
-    assert_eq!(rt; first_other_than_fault(rt.alloc()), None);
+fn faulty_files_have_their_line(rt: HostRuntime) {
+    assert_eq!(rt; first_without_its_fault(rt.alloc()), None);
 }
 
 // ---- failures

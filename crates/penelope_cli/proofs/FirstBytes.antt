@@ -1,22 +1,40 @@
 -- The line for a file that is too long is written only where one was.
 use Rattle.std.proofs.Common.{◌≡◌, ℕ, List, [], ◌∷◌, ◌++◌, Bool, true, false, refl, sym, ◌∙◌, ap, subst, arith}
-use Rattle.std.specs.Prelude.{Option, Some, None, IfSome}
+use Rattle.std.specs.Prelude.{Option, Some, None, IfSome, Result, Ok, Err}
+use Rattle.std.specs.List.{flat_map}
+use Rattle.std.specs.Option.{option_map_or}
 use Rattle.outside.specs.declared.status.Status.{Status}
+use Rattle.outside.specs.declared.status.Status.TheVariants.{Done}
 use Rattle.outside.specs.Meaning.{ShelfState, SinkState, Rose, written_more}
-use Rattle.outside.specs.Plan.{Reply, held, missing, too_long, is_too_long, too_long_line, has_reply, bytes_of, Ran}
+use Rattle.outside.specs.Plan.{finish, say_all, Reply, held, missing, too_long, is_too_long, too_long_line, has_reply, bytes_of, Ran}
 use Rattle.outside.proofs.FirstBytes.{BeginsApart, HeadApart, begins_apart}
-use Rattle.ada_read.specs.declared.procedure.Procedure.{Procedure}
-use Rattle.ada_read.specs.Feeding.{reading}
-use Rattle.penelope_cli.specs.Commands.{Command, check, judgement_of, tell, after_get, plan_for}
+use Rattle.base_kit.specs.declared.fault.Fault.{Fault}
+use Rattle.ada_tree.specs.declared.node.Node.{Node}
+use Rattle.text_read.specs.Files.{file_answer}
+use Rattle.one_path.specs.declared.procedure.Procedure.{Procedure}
+use Rattle.one_path.specs.Form.{form_of}
+use Rattle.penelope_cli.specs.Commands.{Command, check, procedure_report, item_report, judgement_by, judgement_of, tell, after_get, plan_for}
+use Rattle.penelope_cli.specs.Items.{Item, items_of, first_unfit}
 
 -- the first byte of that line is a t; no other line begins so
-told_apart : (read : Option (Option Procedure)) → BeginsApart 116 (tell (judgement_of read))
-told_apart None = λ e. omega (arith, e)
-told_apart (Some None) = tt
-told_apart (Some (Some unit)) = λ e. omega (arith, e)
+report_apart : (read : Option Procedure) (rest : List ℕ) → BeginsApart 116 (say_all rest (finish Done)) → BeginsApart 116 (say_all (option_map_or procedure_report read [] ++ rest) (finish Done))
+report_apart None rest h = h
+report_apart (Some unit) rest h = λ e. omega (arith, e)
+
+reports_apart : (items : List Item) → BeginsApart 116 (say_all (flat_map item_report items) (finish Done))
+reports_apart [] = tt
+reports_apart (item ∷ items) = report_apart (form_of item.node) (flat_map item_report items) (reports_apart items)
+
+items_apart : (unfit : Option Item) (items : List Item) → BeginsApart 116 (tell (judgement_by unfit items))
+items_apart None items = reports_apart items
+items_apart (Some item) items = λ e. omega (arith, e)
+
+told_apart : (answer : Result Node Fault) → BeginsApart 116 (tell (judgement_of answer))
+told_apart (Ok file) = items_apart (first_unfit (items_of 0 file)) (items_of 0 file)
+told_apart (Err fault) = λ e. omega (arith, e)
 
 get_apart : (name : List ℕ) (reply : Reply) → is_too_long reply ≡ false → BeginsApart 116 (after_get name reply)
-get_apart name (held bytes) e = told_apart (reading bytes)
+get_apart name (held bytes) e = told_apart (file_answer bytes)
 get_apart name missing e = λ h. omega (arith, h)
 get_apart name too_long e = cc
 

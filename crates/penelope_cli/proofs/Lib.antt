@@ -1,5 +1,6 @@
 pub mod Clauses
 pub mod Codes
 pub mod FirstBytes
+pub mod Judging
 pub mod Plans
 pub mod Stores

@@ -1,7 +1,9 @@
 -- What the plan for the words can come to.
 use Rattle.std.proofs.Common.{◌≡◌, ◌≢◌, ◌<◌, ℕ, List, length, Bool, true, false, cond, refl, ◌∙◌, ap, arith, ◌⊎◌, inl, inr}
 use Rattle.std.proofs.lemmas.Bool.Decides.{nat_tests}
-use Rattle.std.specs.Prelude.{Option, Some, None, IsNone, IsSomeAnd, nat_lt}
+use Rattle.std.specs.Prelude.{Option, Some, None, IsNone, IsSomeAnd, Result, Ok, Err, nat_lt}
+use Rattle.std.specs.List.{flat_map}
+use Rattle.std.specs.Option.{IsSome}
 use Rattle.outside.specs.declared.status.Status.{Status}
 use Rattle.outside.specs.declared.status.Status.TheVariants.{Done, Usage, SourceFault, ShelfFailed, SinkFailed, NoMemory}
 use Rattle.outside.specs.Meaning.{Files, ShelfState, SinkState}
@@ -10,16 +12,16 @@ use Rattle.outside.specs.Output.{status_of, fails_now, after_call}
 use Rattle.outside.proofs.Causes.{Avoids, avoids-say_all, never_answers, Reports, reports-say_all}
 use Rattle.outside.proofs.Runs.{short_of}
 use Rattle.outside.proofs.Outputs.{said_status, status-say_all}
-use Rattle.ada_read.specs.declared.procedure.Procedure.{Procedure}
-use Rattle.ada_read.specs.Feeding.{reading}
-use Rattle.ada_read.specs.File.{IsNoFile}
-use Rattle.ada_read.proofs.Forms.{read_is_file, file_is_read, no_file}
+use Rattle.base_kit.specs.declared.fault.Fault.{Fault}
+use Rattle.ada_tree.specs.declared.node.Node.{Node}
+use Rattle.text_read.specs.Files.{IsFile, IsFaultOfFile, file_answer}
+use Rattle.text_read.proofs.Files.{is_file_answer}
 use Rattle.penelope_cli.specs.declared.check.Judgement.{Judgement}
 use Rattle.penelope_cli.specs.declared.check.Judgement.TheVariants.{Report, Faulty}
 use Rattle.penelope_cli.specs.declared.top.TheConstants.{MOST_BYTES}
-use Rattle.penelope_cli.specs.Commands.{Command, check, AreFaulty, AreSound, usage_line, fault_line, judgement_of, fresh, tell, after_get, plan_for, IsFaultySource, IsSoundSource}
-use Rattle.penelope_cli.specs.Paths.{obligations_of}
-use Rattle.penelope_cli.specs.Report.{report_of}
+use Rattle.penelope_cli.specs.Commands.{Command, check, AreFaulty, AreSound, usage_line, item_report, judgement_by, judgement_of, fresh, tell, after_get, plan_for, IsFaultySource, IsSoundSource}
+use Rattle.penelope_cli.specs.Faults.{fault_line, in_file}
+use Rattle.penelope_cli.specs.Items.{Item, items_of, first_unfit, unsupported_at}
 
 tell_avoids_usage : (judgement : Judgement) → Avoids Usage (tell judgement)
 tell_avoids_usage (Report text) = avoids-say_all Usage text (finish Done) (λ e. cc)
@@ -54,13 +56,22 @@ pub plan_reports : (command : Option Command) → Reports (plan_for command)
 plan_reports None = reports-say_all usage_line (finish Usage) (λ e. cc)
 plan_reports (Some (check name)) = (refl, λ reply e. get_reports name reply e)
 
--- the status of what is told of bytes: those of no file, and those of one
-told_no_file : (files : Files) (stop : Option ℕ) → status_of (tell (judgement_of None)) files stop ≡ SourceFault
-told_no_file files stop = status-say_all fault_line SourceFault files stop
+-- the status of what is told of a fault, of items one of which isn't taken, and of others
+told_fault : (fault : Fault) (files : Files) (stop : Option ℕ) → status_of (tell (judgement_of (Err fault))) files stop ≡ SourceFault
+told_fault fault files stop = status-say_all (fault_line (in_file 0 fault)) SourceFault files stop
 
-told_file : (file : Option Procedure) (files : Files) (stop : Option ℕ) → status_of (tell (judgement_of (Some file))) files stop ≡ Done
-told_file None files stop = refl
-told_file (Some unit) files stop = status-say_all (report_of unit.name (obligations_of unit)) Done files stop
+told_unfit : (unfit : Option Item) (items : List Item) (files : Files) (stop : Option ℕ) → IsSome unfit → status_of (tell (judgement_by unfit items)) files stop ≡ SourceFault
+told_unfit None items files stop some = absurd cc
+told_unfit (Some item) items files stop some = status-say_all (fault_line (unsupported_at item.path)) SourceFault files stop
+
+told_fit : (unfit : Option Item) (items : List Item) (files : Files) (stop : Option ℕ) → IsNone unfit → status_of (tell (judgement_by unfit items)) files stop ≡ Done
+told_fit None items files stop none = status-say_all (flat_map item_report items) Done files stop
+told_fit (Some item) items files stop none = absurd cc
+
+-- so much is told of these alone
+unfit_where_told : (unfit : Option Item) (items : List Item) (files : Files) (stop : Option ℕ) → status_of (tell (judgement_by unfit items)) files stop ≡ SourceFault → IsSome unfit
+unfit_where_told None items files stop h = let done = told_fit None items files stop refl in absurd cc
+unfit_where_told (Some item) items files stop h = refl
 
 test_long : (limit n : ℕ) → nat_lt limit n ≡ true → limit < n
 test_long limit n h = grind (arith, nat_tests)
@@ -71,24 +82,26 @@ test_no_longer limit n h e = grind (arith, nat_tests)
 -- a sound source is reported
 sound_at : (name : List ℕ) (bytes : Option (List ℕ)) (files : Files) (stop : Option ℕ) → IsSomeAnd bytes IsSoundSource → status_of (after_get name (reply_of bytes MOST_BYTES)) files stop ≡ Done
 sound_at name None files stop h = absurd h
-sound_at name (Some bytes) files stop (short, (file, is)) =
+sound_at name (Some bytes) files stop (short, (file, (is, fit))) =
     ap (λ (t : Bool). status_of (after_get name (cond t too_long (held bytes))) files stop) (short_of MOST_BYTES (length bytes) short)
-    ∙ ap (λ (read : Option (Option Procedure)). status_of (tell (judgement_of read)) files stop) (file_is_read bytes file is)
-    ∙ told_file file files stop
+    ∙ ap (λ (answer : Result Node Fault). status_of (tell (judgement_of answer)) files stop) (((is_file_answer bytes).node file).1 is)
+    ∙ told_fit (first_unfit (items_of 0 file)) (items_of 0 file) files stop fit
 
 pub sound_status : (command : Option Command) (files : Files) → IsSomeAnd command (AreSound files) → status_of (plan_for command) files None ≡ Done
 sound_status None files h = absurd h
 sound_status (Some (check name)) files h = sound_at name (files name) files None h
 
 -- a faulty source is told
-no_file_told : (bytes : List ℕ) (read : Option (Option Procedure)) (files : Files) (stop : Option ℕ) → reading bytes ≡ read → IsNoFile bytes → status_of (tell (judgement_of read)) files stop ≡ SourceFault
-no_file_told bytes None files stop e h = told_no_file files stop
-no_file_told bytes (Some file) files stop e h = absurd (h file (read_is_file bytes file e))
+fault_told : (bytes : List ℕ) (files : Files) (stop : Option ℕ) → ((fault : Fault) × IsFaultOfFile bytes fault) ⊎ ((file : Node) × (IsFile bytes file × IsSome (first_unfit (items_of 0 file)))) → status_of (tell (fresh bytes)) files stop ≡ SourceFault
+fault_told bytes files stop (inl (fault, is)) =
+    ap (λ (answer : Result Node Fault). status_of (tell (judgement_of answer)) files stop) (((is_file_answer bytes).fault fault).1 is) ∙ told_fault fault files stop
+fault_told bytes files stop (inr (file, (is, unfit))) =
+    ap (λ (answer : Result Node Fault). status_of (tell (judgement_of answer)) files stop) (((is_file_answer bytes).node file).1 is) ∙ told_unfit (first_unfit (items_of 0 file)) (items_of 0 file) files stop unfit
 
 faulty_by : (name bytes : List ℕ) (t : Bool) (files : Files) (stop : Option ℕ) → nat_lt MOST_BYTES (length bytes) ≡ t → IsFaultySource bytes → status_of (after_get name (cond t too_long (held bytes))) files stop ≡ SourceFault
 faulty_by name bytes true files stop e h = status-say_all (too_long_line name) SourceFault files stop
 faulty_by name bytes false files stop e (inl long) = absurd (test_no_longer MOST_BYTES (length bytes) long e)
-faulty_by name bytes false files stop e (inr none) = no_file_told bytes (reading bytes) files stop refl none
+faulty_by name bytes false files stop e (inr fault) = fault_told bytes files stop fault
 
 faulty_at : (name : List ℕ) (bytes : Option (List ℕ)) (files : Files) (stop : Option ℕ) → IsSomeAnd bytes IsFaultySource → status_of (after_get name (reply_of bytes MOST_BYTES)) files stop ≡ SourceFault
 faulty_at name None files stop h = absurd h
@@ -103,13 +116,14 @@ faulty_status None files stop h = absurd h
 faulty_status (Some (check name)) files stop h = either_status (fails_now stop) _ (faulty_at name (files name) files (after_call stop) h)
 
 -- and only a faulty source
-read_faulty : (bytes : List ℕ) (read : Option (Option Procedure)) (files : Files) (stop : Option ℕ) → reading bytes ≡ read → status_of (tell (judgement_of read)) files stop ≡ SourceFault → IsNoFile bytes
-read_faulty bytes None files stop e h = no_file bytes e
-read_faulty bytes (Some file) files stop e h = let done = told_file file files stop in cc
+read_faulty : (bytes : List ℕ) (answer : Result Node Fault) (files : Files) (stop : Option ℕ) → file_answer bytes ≡ answer → status_of (tell (judgement_of answer)) files stop ≡ SourceFault
+    → ((fault : Fault) × IsFaultOfFile bytes fault) ⊎ ((file : Node) × (IsFile bytes file × IsSome (first_unfit (items_of 0 file))))
+read_faulty bytes (Ok file) files stop e h = inr (file, (((is_file_answer bytes).node file).0 e, unfit_where_told (first_unfit (items_of 0 file)) (items_of 0 file) files stop h))
+read_faulty bytes (Err fault) files stop e h = inl (fault, ((is_file_answer bytes).fault fault).0 e)
 
 only_faulty_by : (name bytes : List ℕ) (t : Bool) (files : Files) (stop : Option ℕ) → nat_lt MOST_BYTES (length bytes) ≡ t → status_of (after_get name (cond t too_long (held bytes))) files stop ≡ SourceFault → IsFaultySource bytes
 only_faulty_by name bytes true files stop e h = inl (test_long MOST_BYTES (length bytes) e)
-only_faulty_by name bytes false files stop e h = inr (read_faulty bytes (reading bytes) files stop refl h)
+only_faulty_by name bytes false files stop e h = inr (read_faulty bytes (file_answer bytes) files stop refl h)
 
 only_faulty_at : (name : List ℕ) (bytes : Option (List ℕ)) (files : Files) (stop : Option ℕ) → status_of (after_get name (reply_of bytes MOST_BYTES)) files stop ≡ SourceFault → IsSomeAnd bytes IsFaultySource
 only_faulty_at name None files stop h = let absent = status-say_all (absent_line name) ShelfFailed files stop in cc

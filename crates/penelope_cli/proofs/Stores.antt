@@ -6,16 +6,16 @@ use Rattle.std.proofs.Math.ListN.{set}
 use Rattle.std.specs.List.{list_all, prefix_len}
 use Rattle.std.proofs.lemmas.Bool.{and_parts}
 use Rattle.std.proofs.lemmas.Slice.Eq.{bytes_eq-Decides}
-use Rattle.ada_read.specs.declared.procedure.Procedure.{Procedure}
-use Rattle.ada_read.specs.declared.procedure.Statement.{Statement}
-use Rattle.ada_read.specs.declared.procedure.Statement.TheVariants.{Null, Assign}
-use Rattle.ada_read.specs.declared.procedure.Clause.{Clause}
-use Rattle.ada_read.specs.declared.procedure.Clause.TheVariants.{In, Out}
-use Rattle.ada_read.specs.declared.procedure.Operand.{Operand}
-use Rattle.ada_read.specs.declared.procedure.Operand.TheVariants.{Plain, Entry}
-use Rattle.ada_read.specs.declared.procedure.Atom.{Atom}
-use Rattle.ada_read.specs.declared.procedure.Atom.TheVariants.{Name, Number}
-use Rattle.ada_read.specs.Conditions.{has, knows_atom, knows_operand, knows_clause, knows_statement, Meets}
+use Rattle.one_path.specs.declared.procedure.Procedure.{Procedure}
+use Rattle.one_path.specs.declared.procedure.Statement.{Statement}
+use Rattle.one_path.specs.declared.procedure.Statement.TheVariants.{Null, Assign}
+use Rattle.one_path.specs.declared.procedure.Clause.{Clause}
+use Rattle.one_path.specs.declared.procedure.Clause.TheVariants.{In, Out}
+use Rattle.one_path.specs.declared.procedure.Operand.{Operand}
+use Rattle.one_path.specs.declared.procedure.Operand.TheVariants.{Plain, Entry}
+use Rattle.one_path.specs.declared.procedure.Atom.{Atom}
+use Rattle.one_path.specs.declared.procedure.Atom.TheVariants.{Name, Number}
+use Rattle.one_path.specs.Conditions.{has, knows_atom, knows_operand, knows_clause, knows_statement, Meets}
 use Rattle.term_core.specs.declared.term.Term.{Term}
 use Rattle.term_core.specs.Terms.{var, equal}
 use Rattle.term_core.proofs.NameLaws.{same_name}

@@ -1,13 +1,13 @@
 -- A symbolic store as a list, with a place for each object: how the program keeps it.
 use Rattle.std.specs.Prelude.{ℕ, pos, List, [], ◌∷◌, map, Option, Some, None, bytes_eq, if◌then◌else◌}
-use Rattle.ada_read.specs.declared.procedure.Statement.{Statement}
-use Rattle.ada_read.specs.declared.procedure.Statement.TheVariants.{Null, Assign}
-use Rattle.ada_read.specs.declared.procedure.Clause.{Clause}
-use Rattle.ada_read.specs.declared.procedure.Clause.TheVariants.{In, Out}
-use Rattle.ada_read.specs.declared.procedure.Operand.{Operand}
-use Rattle.ada_read.specs.declared.procedure.Operand.TheVariants.{Plain, Entry}
-use Rattle.ada_read.specs.declared.procedure.Atom.{Atom}
-use Rattle.ada_read.specs.declared.procedure.Atom.TheVariants.{Name, Number}
+use Rattle.one_path.specs.declared.procedure.Statement.{Statement}
+use Rattle.one_path.specs.declared.procedure.Statement.TheVariants.{Null, Assign}
+use Rattle.one_path.specs.declared.procedure.Clause.{Clause}
+use Rattle.one_path.specs.declared.procedure.Clause.TheVariants.{In, Out}
+use Rattle.one_path.specs.declared.procedure.Operand.{Operand}
+use Rattle.one_path.specs.declared.procedure.Operand.TheVariants.{Plain, Entry}
+use Rattle.one_path.specs.declared.procedure.Atom.{Atom}
+use Rattle.one_path.specs.declared.procedure.Atom.TheVariants.{Name, Number}
 use Rattle.term_core.specs.declared.term.Term.{Term}
 use Rattle.penelope_cli.specs.declared.obligations.Binding.{Binding}
 use Rattle.term_core.specs.Terms.{int, var, equal}

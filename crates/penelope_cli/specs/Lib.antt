@@ -1,6 +1,9 @@
 pub mod Bindings
 pub mod Causes
 pub mod Commands
+pub mod Faults
+pub mod Items
+pub mod Judging
 pub mod Paths
 pub mod Promises
 pub mod Report

@@ -1,14 +1,15 @@
 -- The proof obligations of a procedure: its path goes forward from the entry to the end, with a symbolic store.
 use Rattle.std.specs.Prelude.{ℕ, suc, pos, negsuc, List, [], ◌∷◌, map, true, bytes_eq, if◌then◌else◌, codes}
-use Rattle.ada_read.specs.declared.procedure.Procedure.{Procedure}
-use Rattle.ada_read.specs.declared.procedure.Statement.{Statement}
-use Rattle.ada_read.specs.declared.procedure.Statement.TheVariants.{Null, Assign}
-use Rattle.ada_read.specs.declared.procedure.Clause.{Clause}
-use Rattle.ada_read.specs.declared.procedure.Clause.TheVariants.{In, Out}
-use Rattle.ada_read.specs.declared.procedure.Operand.{Operand}
-use Rattle.ada_read.specs.declared.procedure.Operand.TheVariants.{Plain, Entry}
-use Rattle.ada_read.specs.declared.procedure.Atom.{Atom}
-use Rattle.ada_read.specs.declared.procedure.Atom.TheVariants.{Name, Number}
+use Rattle.one_path.specs.declared.procedure.Procedure.{Procedure}
+use Rattle.one_path.specs.declared.procedure.Statement.{Statement}
+use Rattle.one_path.specs.declared.procedure.Statement.TheVariants.{Null, Assign}
+use Rattle.one_path.specs.declared.procedure.Clause.{Clause}
+use Rattle.one_path.specs.declared.procedure.Clause.TheVariants.{In, Out}
+use Rattle.one_path.specs.declared.procedure.Operand.{Operand}
+use Rattle.one_path.specs.declared.procedure.Operand.TheVariants.{Plain, Entry}
+use Rattle.one_path.specs.declared.procedure.Atom.{Atom}
+use Rattle.one_path.specs.declared.procedure.Atom.TheVariants.{Name, Number}
+use Rattle.one_path.specs.Conditions.{integer}
 use Rattle.term_core.specs.declared.term.Term.{Term}
 use Rattle.term_core.specs.declared.sequent.Var.{Var}
 use Rattle.term_core.specs.declared.sequent.Sequent.{Sequent}
@@ -67,9 +68,6 @@ joined_to first (term ∷ terms) = joined_to (both first term) terms
 abbrev pub conjunction : List Term → Term
 conjunction [] = truth true
 conjunction (term ∷ terms) = joined_to term terms
-
-abbrev pub integer : List ℕ
-integer = codes "INTEGER"
 
 -- each formal is a variable of the type INTEGER, which is -2147483648 .. 2147483647
 abbrev pub variable_of : List ℕ → Var

@@ -2,10 +2,12 @@
 #![tactic(auto)]
 
 mod check;
+mod fault;
 mod obligations;
 mod report;
 mod top;
 mod words;
+mod write;
 
 pub use check::Judgement;
 pub use top::penelope;

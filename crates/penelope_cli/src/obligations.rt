@@ -2,12 +2,12 @@
 ghost use Rattle.std.specs.Prelude.{◌≡◌, ◌∷◌, [], length, bytes_eq, position, map, List, Some, IfOk, OnOk};
 ghost use Rattle.term_core.specs.declared.term.Term.{Term as LogicTerm};
 ghost use Rattle.term_core.specs.Terms.{int, var, op};
-ghost use Rattle.ada_read.specs.Conditions.{Meets};
+ghost use Rattle.one_path.specs.Conditions.{Meets};
 ghost use Rattle.penelope_cli.specs.Paths.{entry_store, value_of, after_all, hypotheses_of, conclusions_of, conjunction, variable_of, obligations_of};
 ghost use Rattle.penelope_cli.specs.Bindings.{bound_value, rebound, bound_atom, bound_operand, bound_conclusions, joined, after_statement, after_statements, entry_bindings};
 
-use ada_read::{Atom, Clause, Operand, Procedure, Statement};
 use base_kit::{Copied, Memory, Text};
+use one_path::{Atom, Clause, Operand, Procedure, Statement};
 use std::alloc::Global;
 use term_core::{Obligation, Obligations, Oper, Sequent, Sort, Term, Terms, Var, Vars};
 

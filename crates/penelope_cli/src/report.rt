@@ -1,9 +1,9 @@
 // The report of a unit.
 ghost use Rattle.std.specs.Prelude.{◌≡◌, ◌++◌, OnOk, IfOk};
 ghost use Rattle.std.specs.List.{flat_map};
-ghost use Rattle.std.specs.Fmt.{decimal};
 ghost use Rattle.penelope_cli.specs.Report.{key_line, no_names, obligation_lines, report_of};
 
+use crate::write::{write, write_number};
 use base_kit::{Memory, Names, Text};
 use std::alloc::Global;
 use term_core::{Obligation, Obligations, OpNames};
@@ -12,27 +12,13 @@ use tree_write::write_sequent;
 /// How many blanks the lines of a sequent are indented by.
 const INDENT: u32 = 4;
 
-fn write(out: &mut Vec<u8>, bytes: &[u8]) -> Result<(), Memory>
-    ensures { OnOk result (out.new.items ≡ out.old.items ++ bytes.now) }
-{
-    out.extend_from_slice(bytes)?;
-    Ok(())
-}
-
-fn write_number(alloc: Global, out: &mut Vec<u8>, number: u32) -> Result<(), Memory>
-    ensures { OnOk result (out.new.items ≡ out.old.items ++ decimal number) }
-{
-    let digits = number.to_string(alloc)?;
-    write(out, digits.as_bytes())
-}
-
 fn write_key(alloc: Global, out: &mut Vec<u8>, obligation: &Obligation) -> Result<(), Memory>
     ensures { OnOk result (out.new.items ≡ out.old.items ++ key_line obligation.now) }
 {
     write(out, b"  ")?;
     write(out, obligation.cut.as_bytes())?;
     write(out, b".")?;
-    write_number(alloc, out, obligation.ordinal)?;
+    write_number(alloc, out, u64::from(obligation.ordinal))?;
     write(out, b" open\n")
 }
 

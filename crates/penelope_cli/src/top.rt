@@ -1,5 +1,5 @@
 // The whole program, over any shelf and any sink.
-ghost use Rattle.std.specs.Prelude.{◌≡◌, ◌≢◌, map, string_bytes, Some};
+ghost use Rattle.std.specs.Prelude.{◌≡◌, ◌≢◌, ◌<◌, ◌^◌, length, map, string_bytes, Some};
 ghost use Rattle.outside.specs.declared.status.Status.TheVariants.{SinkFailed};
 ghost use Rattle.outside.specs.Meaning.{ShelfState};
 ghost use Rattle.outside.specs.Plan.{Ran, Goes, say_all, finish, line_of};
@@ -61,6 +61,7 @@ fn print_line<K: Sink>(out: &mut K, word: &str, name: &str, status: Status) -> S
 
 // Checks the bytes of a file and prints what comes of it.
 fn tell_of<K: Sink>(alloc: Global, bytes: &[u8], out: &mut K) -> Status
+    requires { length bytes.now < 2 ^ 32 }
     ensures { (s : ShelfState) → Ran (tell (fresh bytes.now)) result s s (K.state out.old) (K.state out.new) }
 {
     match judge(alloc, bytes) {
