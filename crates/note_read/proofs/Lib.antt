@@ -1,16 +1,6 @@
-mod Advances
-mod Alike
-mod Building
-mod Counting
-mod Endings
-mod Higher
-mod Known
-mod Lines
+mod Fronts
 pub mod Lying
 mod Outcomes
-mod Rows
 mod Runs
-mod Stacks
-mod Steps
+mod Tails
 mod Thin
-mod Wide

@@ -1,7 +1,7 @@
 -- Reading signs one by one is reading the tokens that bring the comments before them.
 use Rattle.std.proofs.Common.{◌≡◌, ℕ, List, [], ◌∷◌, ◌++◌, refl, sym, ◌∙◌, ap, Bool, Option, Some, None, option_map, if◌then◌else◌, append_assoc, append-nil}
 use Rattle.ada_tree.specs.Tokens.{Lexeme, Sign, token, comment}
-use Rattle.note_read.proofs.Alike.{lead_same, enter_same}
+use Rattle.reading_machine.proofs.Alike.{lead_same, enter_same}
 use Rattle.note_read.specs.Signs.{read_signs, ended_at, read_by_table}
 use Rattle.reading_table.specs.Machine.{lead, enter, perform_at, perform, performed, feed, hush, apply}
 use Rattle.reading_table.specs.Reading.{reading_table, deepest}

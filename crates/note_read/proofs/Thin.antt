@@ -6,8 +6,9 @@ use Rattle.ada_tree.specs.declared.doc.Counts.{Counts}
 use Rattle.ada_tree.specs.declared.kind.Kind.{Kind}
 use Rattle.ada_tree.specs.declared.node.Node.{Node, Node-F, out-roll-Node}
 use Rattle.ada_tree.specs.Nodes.{node_of, kind_of, text_of, is_step}
-use Rattle.note_read.specs.Bare.{bare, count_in, is_tree, passes, counts_with, more_counts, bare_progress, thinned, CountedOutcome, kept, too_many, ended_with, counted_from, lost_with, lost_in, greatest_count}
-use Rattle.note_read.proofs.Counting.{done_count, bare_counts}
+use Rattle.note_read.specs.Counted.{CountedOutcome, kept, too_many, ended_with, counted_from}
+use Rattle.reading_machine.specs.Bare.{bare, count_in, is_tree, passes, counts_with, more_counts, bare_progress, thinned, lost_with, lost_in, greatest_count}
+use Rattle.reading_machine.proofs.Counting.{done_count, bare_counts}
 use Rattle.reading_table.specs.declared.held.Held.{Held}
 use Rattle.reading_table.specs.declared.held.Held.TheVariants as held
 use Rattle.reading_table.specs.declared.symbol.Symbol.{Symbol}
@@ -15,11 +16,11 @@ use Rattle.reading_table.specs.declared.symbol.Symbol.TheVariants as symbol
 use Rattle.std.proofs.lemmas.List.Concat.{flat_map-cons}
 use Rattle.lex_ada.specs.declared.token.Token.{Token as SourceToken}
 use Rattle.lex_ada.specs.Meanings.{meaning, meanings, bytes_of}
-use Rattle.note_read.specs.declared.lexeme.Token.{Token as ReadToken}
-use Rattle.note_read.specs.declared.machine.Fed.TheVariants as fed_as
-use Rattle.note_read.specs.declared.machine.Machine.{Machine}
-use Rattle.note_read.specs.Lexemes.{lexeme_of, token_of}
-use Rattle.note_read.specs.Machines.{FeedsWithin, progress_of, commented, with_comment, ended}
+use Rattle.reading_machine.specs.declared.lexeme.Token.{Token as ReadToken}
+use Rattle.reading_machine.specs.declared.machine.Fed.TheVariants as fed_as
+use Rattle.reading_machine.specs.declared.machine.Machine.{Machine}
+use Rattle.reading_machine.specs.Lexemes.{lexeme_of, token_of}
+use Rattle.reading_machine.specs.Machines.{FeedsWithin, progress_of, commented, with_comment, ended}
 use Rattle.note_read.specs.Signs.{read_signs, ended_at, behind}
 use Rattle.ada_tree.specs.Tokens.{Sign, token, comment, Lexeme}
 use Rattle.ada_tree.specs.Reading.{open_after}
@@ -431,7 +432,7 @@ limited_ends most lost n round p next note lexeme signs h w =
     ap (λ o. counted_from most lost (behind n (within_limits round o (λ next. read_signs round next signs)))) h
     ∙ ap (λ b. counted_from most lost (behind n (if b then later (read_signs round next signs) else limited 0))) w ∙ ap (λ m. kept (limited m)) (none_more n)
 
-behind_later : (n : ℕ) (o : Outcome) → behind n (later o) ≡ behind (n + 1) o
+pub behind_later : (n : ℕ) (o : Outcome) → behind n (later o) ≡ behind (n + 1) o
 behind_later n (read state) = refl
 behind_later n (stopped m) = ap stopped (omega arith)
 behind_later n (limited m) = ap limited (omega arith)

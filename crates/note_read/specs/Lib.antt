@@ -1,11 +1,3 @@
-pub mod Bare
-pub mod Finds
-pub mod Lexemes
-pub mod Machines
-pub mod Needs
-pub mod Rows
-pub mod Sights
+pub mod Counted
+pub mod Fronts
 pub mod Signs
-pub mod Values
-pub mod Views
-pub mod Ways

@@ -8,9 +8,9 @@ use Rattle.note_read.specs.declared.reading.Reading.{Reading}
 use Rattle.note_read.specs.declared.reading.Reading.TheVariants as reading
 use Rattle.note_read.specs.declared.sign.Sign.{Sign as ReadSign}
 use Rattle.note_read.specs.declared.sign.Sign.TheVariants as sign
-use Rattle.note_read.specs.Lexemes.{lexeme_of}
-use Rattle.note_read.specs.Machines.{commented, ended}
-use Rattle.note_read.specs.Values.{state_of}
+use Rattle.reading_machine.specs.Lexemes.{lexeme_of}
+use Rattle.reading_machine.specs.Machines.{commented, ended}
+use Rattle.reading_machine.specs.Values.{state_of}
 use Rattle.reading_table.specs.Limits.{Outcome, read, stopped, limited}
 use Rattle.reading_table.specs.Reading.{deepest}
 use Rattle.reading_table.specs.Rows.{Placed}

@@ -1,18 +1,9 @@
-//! Reading by the table, one token at a time.
+//! Reading the tokens of a source by the table: to their end, or as far as may be.
 #![tactic(auto)]
 
-mod choosing;
-mod lexeme;
-mod machine;
-mod masses;
+mod front;
 mod reading;
-mod sight;
 mod sign;
-mod stack;
-mod values;
-mod ways;
 
-pub use lexeme::{Lexeme, Token};
-pub use machine::{Fed, Machine};
+pub use front::{Ending, last_end};
 pub use reading::{Counted, Reading, read_counted, read_text, read_tokens};
-pub use values::Values;

@@ -2,18 +2,18 @@
 ghost use Rattle.std.specs.Prelude.{◌≡◌, ◌<◌, ◌^◌, length, All, IfOk, IfErr, Err};
 ghost use Rattle.lex_ada.specs.Faults.{Answers};
 ghost use Rattle.lex_ada.specs.Meanings.{LiesIn, meanings};
-ghost use Rattle.note_read.specs.Bare.{counted_of, counted_from, ended_with, nothing};
-ghost use Rattle.note_read.specs.Machines.{progress_of};
-ghost use Rattle.note_read.specs.Values.{state_of};
+ghost use Rattle.note_read.specs.Counted.{counted_of, counted_from, ended_with};
+ghost use Rattle.reading_machine.specs.Bare.{nothing};
+ghost use Rattle.reading_machine.specs.Machines.{progress_of};
+ghost use Rattle.reading_machine.specs.Values.{state_of};
 ghost use Rattle.note_read.specs.Signs.{read_signs, read_by_table, outcome_of, IsReadFrom};
 ghost use Rattle.reading_table.specs.Rows.{placed};
 
-use crate::machine::{Fed, Machine};
 use crate::sign::{Sign, sign_of};
-use crate::values::{Values, passes};
 use ada_tree::Counts;
 use base_kit::{Memory, Stop};
 use lex_ada::{Token, tokens};
+use reading_machine::{Fed, Machine, Values, passes};
 use reading_table::Symbol;
 use std::alloc::Global;
 

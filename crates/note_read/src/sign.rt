@@ -3,9 +3,9 @@ ghost use Rattle.std.specs.Prelude.{◌≡◌, IfOk};
 ghost use Rattle.lex_ada.specs.Meanings.{LiesIn, bytes_of, meaning};
 ghost use Rattle.note_read.specs.Signs.{signs_of};
 
-use crate::lexeme::{Lexeme, Token};
 use base_kit::{Memory, Text};
 use lex_ada::{Token as SourceToken, TokenKind};
+use reading_machine::{Lexeme, Token};
 use std::alloc::Global;
 
 /// What a token of a source is to a reader.

@@ -87,18 +87,19 @@ record IsLow (round : ℕ) (stack : List Placed) (state : State) : Type 0 where
   nodes : round + (surely (standing stack state 0)).nodes ≤ MOST_NESTED
   steps : (surely (standing stack state 0)).steps ≤ MOST_NESTED_STEPS
 
-pub is_derived_within : (round : ℕ) (part : GrammarPart) (signs : List Sign) (state : State) → round ≤ MOST_NESTED → has_texts part ≡ true → are_signs signs ≡ true → read_within round part signs ≡ read state → ReadsNode round part signs state
+pub is_derived_within : (round : ℕ) (part : GrammarPart) (signs : List Sign) (state : State) → (tokens_of signs ≡ [] → round ≤ MOST_NESTED) → has_texts part ≡ true → are_signs signs ≡ true → read_within round part signs ≡ read state → ReadsNode round part signs state
 is_derived_within round part signs last small h x r = by (trace round (trailing_from [] signs) (tokens_of signs) (at_first part signs) (read last) r)
   where
     low_here : (pre : List Token) (comments : List (List ℕ)) (stack : List Placed) (state : State) (line : List Placed) → hush reading_table stack ≡ Some line → Reached part pre comments stack state
-        → (pre ≡ []) ⊎ (fits round (standing stack state (count_along 0 pre)) ≡ true) → IsLow round stack state
-    low_here pre comments stack state line q p (inr f) = let g = fitting_is round stack state (count_along 0 pre) f in record { nodes = g.nodes; steps = g.steps }
-    low_here pre comments stack state line q p (inl e) =
+        → pre ++ [] ≡ tokens_of signs → (pre ≡ []) ⊎ (fits round (standing stack state (count_along 0 pre)) ≡ true) → IsLow round stack state
+    low_here pre comments stack state line q p w (inr f) = let g = fitting_is round stack state (count_along 0 pre) f in record { nodes = g.nodes; steps = g.steps }
+    low_here pre comments stack state line q p w (inl e) =
+        let few : round ≤ MOST_NESTED = small (sym w ∙ append-nil pre ∙ e) in
         let z = passed_none p e in
         let begins = begins_part part h in
         let g = fitting_is 0 (whole_start part) nothing_read 0 begins.low in
         let flat = begins.flat line (ap (hush reading_table) z.0 ∙ q) in
-        let first : IsLow round (whole_start part) nothing_read = record { nodes = omega (arith, flat, small); steps = g.steps } in
+        let first : IsLow round (whole_start part) nothing_read = record { nodes = omega (arith, flat, few); steps = g.steps } in
         let started : IsLow round (whole_start part) (start_state comments pre) = subst (λ vs. IsLow round (whole_start part) record { values = vs; waiting = (start_state comments pre).waiting }) (sym (arrived_is comments pre nothing_read)) record { nodes = first.nodes; steps = first.steps } in
         subst (λ ss. IsLow round ss state) z.0 (subst (λ u. IsLow round (whole_start part) u) z.1 started)
 
@@ -114,7 +115,7 @@ is_derived_within round part signs last small h x r = by (trace round (trailing_
         let g = is_derived part signs last h x whole in
         let weight : mass.Tree (height_of g.node) ∷ [] ≡ least stack (masses state.values) =
         ap masses (sym g.only) ∙ ap (λ (u : State). masses u.values) (sym why.2) ∙ hush_applied stack why.0 state s.now.0 s.fine.out why.1 s.on s.fine.moves_to in
-        let low = low_here pre comments stack state why.0 why.1 cut.reached l in
+        let low = low_here pre comments stack state why.0 why.1 cut.reached w l in
         let along : open_in 0 signs ≡ open_along 0 pre = open_in_is signs 0 [] ∙ ap (open_along 0) (sym w ∙ append-nil pre) in
         record { node = g.node; only = g.only; reads = reads_within round part signs g.node stack state 0 g.reading weight low.nodes low.steps (omega (arith, along, o)) }
 
@@ -153,14 +154,19 @@ pub some_text : (part : GrammarPart) → has_texts part ≡ true → GoesOnWithi
 some_text part h = fitting_goes_on 0 part [] [] [] (whole_start part) (start_state [] []) h refl refl refl stays (begins_part part h).low (omega arith)
 
 goes_on_before : (round : ℕ) (part : GrammarPart) (front : List Sign) (pre : List Token) (comments : List (List ℕ)) (stack : List Placed) (state : State) → has_texts part ≡ true → are_signs front ≡ true → tokens_from [] front ≡ pre
-    → trailing_from [] front ≡ comments → Reached part pre comments stack state → (pre ≡ []) ⊎ (fits round (standing stack state (count_along 0 pre)) ≡ true) → open_along 0 pre ≤ MOST_OPEN → GoesOnWithin round part [] → GoesOnWithin round part front
+    → trailing_from [] front ≡ comments → Reached part pre comments stack state → (pre ≡ []) ⊎ (fits round (standing stack state (count_along 0 pre)) ≡ true) → open_along 0 pre ≤ MOST_OPEN → (length pre ≡ 0 → GoesOnWithin round part []) → GoesOnWithin round part front
 goes_on_before round part front pre comments stack state h x e l p (inr f) o g = fitting_goes_on round part front pre comments stack state h x e l p f o
 goes_on_before round part front pre comments stack state h x e l p (inl n) o g =
     let z = passed_none p n in
     let at : List Placed → List Held → ℕ → Bool = λ ss vs count. fits round (standing ss record { values = vs; waiting = [] } count) in
-    let first : at (whole_start part) (start_state comments pre).values 0 ≡ true = ap (λ vs. at (whole_start part) vs 0) (arrived_is comments pre nothing_read) ∙ start_fits round part h g in
+    let first : at (whole_start part) (start_state comments pre).values 0 ≡ true = ap (λ vs. at (whole_start part) vs 0) (arrived_is comments pre nothing_read) ∙ start_fits round part h (g (ap length n)) in
     let here : at stack state.values 0 ≡ true = subst (λ ss. at ss state.values 0 ≡ true) z.0 (subst (λ (u : State). at (whole_start part) u.values 0 ≡ true) z.1 first) in
     fitting_goes_on round part front pre comments stack state h x e l p (subst (λ pre. at stack state.values (count_along 0 pre) ≡ true) (sym n) here) o
+
+-- comments come before the first token of a text that goes on
+pub comments_go_on : (round : ℕ) (part : GrammarPart) (front : List Sign) → has_texts part ≡ true → are_signs front ≡ true → tokens_of front ≡ [] → GoesOnWithin round part [] → GoesOnWithin round part front
+comments_go_on round part front h x none text =
+    goes_on_before round part front [] (trailing_from [] front) (whole_start part) (start_state (trailing_from [] front) []) h x none refl stays (inl refl) (omega arith) (λ zero. text)
 
 -- ---- where reading stops
 
@@ -173,15 +179,15 @@ never : (r : Result State ℕ) (n : ℕ) (last : State) → r ≡ Err n → r �
 never r n last e z = absurd (let y : Err n ≡ Ok last = sym e ∙ z in cc)
 
 refuses : (part : GrammarPart) (front rest : List Sign) (pre post : List Token) (comments tail : List (List ℕ)) (stack : List Placed) (state : State) → has_texts part ≡ true → tokens_from [] front ≡ pre → trailing_from [] front ≡ comments
-    → Reached part pre comments stack state → Comes comments tail post → Rest post rest → IsRefused stack state (count_along 0 pre) post → Refuses part front rest
-refuses part front rest pre [] comments tail stack state h e l p c f why = subst (Refuses part front) (sym f) none
+    → Reached part pre comments stack state → Comes comments tail post → Rest post rest → IsRefused stack state (count_along 0 pre) post → Refuses (GrammarReads part) front rest
+refuses part front rest pre [] comments tail stack state h e l p c f why = subst (Refuses (GrammarReads part) front) (sym f) none
   where
     none : (node : Node) → GrammarReads part front node → ⊥
     none node g =
         let k = continued part front [] pre comments stack state node h e l p refl (subst (λ signs. GrammarReads part signs node) (sym (append-nil front)) g) in
         let z : finished reading_table None state ≡ Ok k.last = sym (ap (λ o. finished reading_table o state) why) ∙ k.runs in
         never (finished reading_table None state) 0 k.last refl z
-refuses part front rest pre (t ∷ post) comments tail stack state h e l p c f why = subst (Refuses part front) (sym f.1) none
+refuses part front rest pre (t ∷ post) comments tail stack state h e l p c f why = subst (Refuses (GrammarReads part) front) (sym f.1) none
   where
     none : (other : List Sign) (node : Node) → GrammarReads part (front ++ token t.note t.lexeme ∷ other) node → ⊥
     none other node g =
@@ -206,7 +212,7 @@ stops round part signs n h x r = by (trace round (trailing_from [] signs) (token
           rest = s.rest;
           whole = sym s.whole;
           before = ap length s.tokens ∙ t.many;
-          goes_on = goes_on_before round part s.front t.pre t.comments t.stack t.state h c.fitting s.tokens s.left c.reached t.low few;
+          goes_on = λ goes. goes_on_before round part s.front t.pre t.comments t.stack t.state h c.fitting s.tokens s.left c.reached t.low few (λ none. goes (sym t.many ∙ none));
           stops = refuses part s.front s.rest t.pre t.post t.comments (trailing_from [] signs) t.stack t.state h s.tokens s.left c.reached t.comes s.follows t.why;
         }
 
@@ -219,11 +225,11 @@ passed_more (goes {ts = ts} {comments = comments} between e p) t next c f =
     goes between e (subst (λ u. Passed between.0 u (ts ++ t ∷ []) [] next.0 (with_comments [] next.1)) (sym (front_arrives ts (t ∷ []) comments [] between.1 c)) (passed_more p t next c f))
 
 deep_here : (round : ℕ) (part : GrammarPart) (front rest : List Sign) (pre post : List Token) (comments tail : List (List ℕ)) (stack : List Placed) (state : State) → has_texts part ≡ true → are_signs front ≡ true → are_signs rest ≡ true
-    → tokens_from [] front ≡ pre → trailing_from [] front ≡ comments → Reached part pre comments stack state → Comes comments tail post → Rest post rest → IsDeep round stack state (count_along 0 pre) post → Limits round part front rest
+    → tokens_from [] front ≡ pre → trailing_from [] front ≡ comments → Reached part pre comments stack state → Comes comments tail post → Rest post rest → IsDeep round stack state (count_along 0 pre) post → Limits (GrammarReads part) (ReadsWithin round part) front rest
 deep_here round part front rest pre [] comments tail stack state h x y e l p c f why = absurd why
-deep_here round part front rest pre (t ∷ post) comments tail stack state h x y e l p c f why = subst (Limits round part front) (sym f.1) (unlimited, none)
+deep_here round part front rest pre (t ∷ post) comments tail stack state h x y e l p c f why = subst (Limits (GrammarReads part) (ReadsWithin round part) front) (sym f.1) (unlimited, none)
   where
-    unlimited : GoesOn part (front ++ token t.note t.lexeme ∷ [])
+    unlimited : GoesOn (GrammarReads part) (front ++ token t.note t.lexeme ∷ [])
     unlimited =
         let next = why.0 in
         let tokens : tokens_from [] (front ++ token t.note t.lexeme ∷ []) ≡ pre ++ t ∷ [] =
@@ -275,6 +281,6 @@ is_limited round part signs n h x r = by (trace round (trailing_from [] signs) (
           rest = s.rest;
           whole = sym s.whole;
           before = ap length s.tokens ∙ t.many;
-          goes_on = goes_on_before round part s.front t.pre t.comments t.stack t.state h c.fitting s.tokens s.left c.reached t.low few;
+          goes_on = λ goes. goes_on_before round part s.front t.pre t.comments t.stack t.state h c.fitting s.tokens s.left c.reached t.low few (λ none. goes (sym t.many ∙ none));
           stops = deep_here round part s.front s.rest t.pre t.post t.comments (trailing_from [] signs) t.stack t.state h c.fitting (and_parts (are_signs s.front) (are_signs s.rest) both).1 s.tokens s.left c.reached t.comes s.follows t.why;
         }

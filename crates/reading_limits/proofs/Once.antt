@@ -1,11 +1,13 @@
 -- A text is read, or reading stops at one place, for one reason.
-use Rattle.std.proofs.Common.{◌≡◌, Bool, ℕ, List, [], ◌∷◌, ◌++◌, length, refl, sym, ◌∙◌, ap, subst, append_assoc, append-nil}
+use Rattle.std.proofs.Common.{arith, ◌≡◌, Bool, ℕ, suc, ◌+◌, List, [], ◌∷◌, ◌++◌, length, refl, sym, ◌∙◌, ap, subst, append_assoc, append-nil}
+use Rattle.std.proofs.lemmas.List.{length-append}
 use Rattle.ada_tree.specs.declared.node.Node.{Node}
 use Rattle.ada_tree.specs.declared.part.Part.{Part as GrammarPart}
 use Rattle.ada_tree.specs.Tokens.{Sign, Lexeme, token, comment}
 use Rattle.reading_exact.specs.Whole.{GrammarReads}
-use Rattle.reading_limits.specs.Viable.{ReadsWithin, GoesOnWithin, Refuses, Limits, StopsBehind, StopsAt, IsLimitedAt}
-use Rattle.reading_table.specs.Signs.{tokens_of}
+use Rattle.reading_limits.specs.Viable.{ReadsWithin, GoesOn, Refuses, Limits, StopsBehind, StopsAt, IsLimitedAt}
+use Rattle.reading_limits.proofs.Texts.{tokens-append}
+use Rattle.reading_table.specs.Signs.{tokens_from, tokens_of, trailing_from}
 
 -- ---- two places in one text
 
@@ -25,93 +27,109 @@ cut (x ∷ f) r (y ∷ g) s e = by (cut f r g s cc)
 -- ---- where reading stops
 
 -- nothing that goes on stands behind such a place
-pub record Blocks (Stops : ℕ → GrammarPart → List Sign → List Sign → Type 0) : Type 0 where
-  pub at_comment : (round : ℕ) (part : GrammarPart) (front rest : List Sign) (text : List ℕ) → Stops round part front (comment text ∷ rest) → ⊥
-  pub at_token : (round : ℕ) (part : GrammarPart) (front rest more : List Sign) (note : Bool) (lexeme : Lexeme)
-      → Stops round part front (token note lexeme ∷ rest) → GoesOnWithin round part (front ++ token note lexeme ∷ more) → ⊥
+pub record Blocks (Goes : List Sign → Type 0) (Stops : List Sign → List Sign → Type 0) : Type 0 where
+  pub at_comment : (front rest : List Sign) (text : List ℕ) → Stops front (comment text ∷ rest) → ⊥
+  pub at_token : (front rest more : List Sign) (note : Bool) (lexeme : Lexeme) → Stops front (token note lexeme ∷ rest) → Goes (front ++ token note lexeme ∷ more) → ⊥
 
-refusals_block : Blocks (λ round. Refuses)
-refusals_block = record {
-  at_comment = λ round part front rest text stops. stops;
-  at_token = λ round part front rest more note lexeme stops goes.
-      stops (more ++ goes.more) goes.node (subst (λ signs. GrammarReads part signs goes.node) (append_assoc front (token note lexeme ∷ more) goes.more) goes.reads.reading);
+module _ (Reads Within : List Sign → Node → Type 0) (within_reads : (signs : List Sign) (node : Node) → Within signs node → Reads signs node) where
+  pub refusals_block : Blocks (GoesOn Within) (Refuses Reads)
+  refusals_block = record {
+    at_comment = λ front rest text stops. stops;
+    at_token = λ front rest more note lexeme stops goes.
+        stops (more ++ goes.more) goes.node (subst (λ signs. Reads signs goes.node) (append_assoc front (token note lexeme ∷ more) goes.more) (within_reads (front ++ token note lexeme ∷ more ++ goes.more) goes.node goes.reads));
+  }
+
+pub limits_block : (Reads Within : List Sign → Node → Type 0) → Blocks (GoesOn Within) (Limits Reads Within)
+limits_block Reads Within = record {
+  at_comment = λ front rest text stops. stops;
+  at_token = λ front rest more note lexeme stops goes.
+      stops.1 (more ++ goes.more) goes.node (subst (λ signs. Within signs goes.node) (append_assoc front (token note lexeme ∷ more) goes.more) goes.reads);
 }
 
-limits_block : Blocks Limits
-limits_block = record {
-  at_comment = λ round part front rest text stops. stops;
-  at_token = λ round part front rest more note lexeme stops goes.
-      stops.1 (more ++ goes.more) goes.node (subst (λ signs. ReadsWithin round part signs goes.node) (append_assoc front (token note lexeme ∷ more) goes.more) goes.reads);
-}
+-- a front with a token has one
+some_token : (front more : List Sign) (note : Bool) (lexeme : Lexeme) → length (tokens_of (front ++ token note lexeme ∷ more)) ≡ 0 → ⊥
+some_token front more note lexeme e =
+    let cut : length (tokens_of (front ++ token note lexeme ∷ more)) ≡ length (tokens_of front) + suc (length (tokens_of more)) =
+    ap length (tokens-append front (token note lexeme ∷ more) []) ∙ length-append (tokens_of front) (tokens_from (trailing_from [] front) (token note lexeme ∷ more)) in
+    omega (arith, cut, e)
 
 -- the same place
 pub record Same (f r g s : List Sign) : Type 0 where
   pub fronts : f ≡ g
   pub rests : r ≡ s
 
-module _ (A B : ℕ → GrammarPart → List Sign → List Sign → Type 0) (block_a : Blocks A) (block_b : Blocks B) (round : ℕ) (part : GrammarPart) where
-  none_further : (f r s more : List Sign) → A round part f r → r ≡ more ++ s → GoesOnWithin round part (f ++ more) → more ≡ []
-  none_further f r s [] stops e goes = refl
-  none_further f r s (comment text ∷ more) stops e goes = absurd (block_a.at_comment round part f (more ++ s) text (subst (A round part f) e stops))
-  none_further f r s (token note lexeme ∷ more) stops e goes = absurd (block_a.at_token round part f (more ++ s) more note lexeme (subst (A round part f) e stops) goes)
+module _ (Goes : List Sign → Type 0) (A B : List Sign → List Sign → Type 0) (block_a : Blocks Goes A) (block_b : Blocks Goes B) where
+  none_between : (Stops : List Sign → List Sign → Type 0) (blocks : Blocks Goes Stops) (f r s more : List Sign) → Stops f r → r ≡ more ++ s → ((length (tokens_of (f ++ more)) ≡ 0 → Goes []) → Goes (f ++ more)) → more ≡ []
+  none_between Stops blocks f r s [] stops e goes = refl
+  none_between Stops blocks f r s (comment text ∷ more) stops e goes = absurd (blocks.at_comment f (more ++ s) text (subst (Stops f) e stops))
+  none_between Stops blocks f r s (token note lexeme ∷ more) stops e goes =
+      absurd (blocks.at_token f (more ++ s) more note lexeme (subst (Stops f) e stops) (goes (λ none. absurd (some_token f more note lexeme none))))
 
-  none_nearer : (g s r more : List Sign) → B round part g s → s ≡ more ++ r → GoesOnWithin round part (g ++ more) → more ≡ []
-  none_nearer g s r [] stops e goes = refl
-  none_nearer g s r (comment text ∷ more) stops e goes = absurd (block_b.at_comment round part g (more ++ r) text (subst (B round part g) e stops))
-  none_nearer g s r (token note lexeme ∷ more) stops e goes = absurd (block_b.at_token round part g (more ++ r) more note lexeme (subst (B round part g) e stops) goes)
-
-  one_place : (f r g s : List Sign) → f ++ r ≡ g ++ s → A round part f r → B round part g s → GoesOnWithin round part f → GoesOnWithin round part g → Same f r g s
-  one_place f r g s e a b goes_f goes_g = by (cut f r g s e)
+  pub stops_once : (signs : List Sign) (m n : ℕ) → (a : StopsBehind Goes A signs m) → (b : StopsBehind Goes B signs n) → Same a.front a.rest b.front b.rest
+  stops_once signs m n a b = by (cut a.front a.rest b.front b.rest (sym a.whole ∙ b.whole))
     where
-      by : Cut f r g s → Same f r g s
+      by : Cut a.front a.rest b.front b.rest → Same a.front a.rest b.front b.rest
       by (further more h k) =
-          let none : more ≡ [] = none_further f r s more a k (subst (GoesOnWithin round part) h goes_g) in
-          record { fronts = sym (h ∙ ap (λ m. f ++ m) none ∙ append-nil f); rests = k ∙ ap (λ m. m ++ s) none }
+          let none : more ≡ [] = none_between A block_a a.front a.rest b.rest more a.stops k (subst (λ front. (length (tokens_of front) ≡ 0 → Goes []) → Goes front) h (λ g. b.goes_on (λ e. g (b.before ∙ e)))) in
+          record { fronts = sym (h ∙ ap (λ m. a.front ++ m) none ∙ append-nil a.front); rests = k ∙ ap (λ m. m ++ b.rest) none }
       by (nearer more h k) =
-          let none : more ≡ [] = none_nearer g s r more b k (subst (GoesOnWithin round part) h goes_f) in
-          record { fronts = h ∙ ap (λ m. g ++ m) none ∙ append-nil g; rests = sym (k ∙ ap (λ m. m ++ r) none) }
+          let none : more ≡ [] = none_between B block_b b.front b.rest a.rest more b.stops k (subst (λ front. (length (tokens_of front) ≡ 0 → Goes []) → Goes front) h (λ g. a.goes_on (λ e. g (a.before ∙ e)))) in
+          record { fronts = h ∙ ap (λ m. b.front ++ m) none ∙ append-nil b.front; rests = sym (k ∙ ap (λ m. m ++ a.rest) none) }
 
-  stops_once : (signs : List Sign) (m n : ℕ) → GoesOnWithin round part [] → (a : StopsBehind A round part signs m) → (b : StopsBehind B round part signs n) → Same a.front a.rest b.front b.rest
-  stops_once signs m n goes a b = one_place a.front a.rest b.front b.rest (sym a.whole ∙ b.whole) a.stops b.stops (a.goes_on goes) (b.goes_on goes)
+  -- behind the same number of tokens
+  pub same_number : (signs : List Sign) (m n : ℕ) → StopsBehind Goes A signs m → StopsBehind Goes B signs n → m ≡ n
+  same_number signs m n a b =
+      let same = stops_once signs m n a b in
+      sym a.before ∙ ap (λ front. length (tokens_of front)) same.fronts ∙ b.before
 
--- ---- the law
+-- ---- one place, and one reason
 
-same_number : (A B : ℕ → GrammarPart → List Sign → List Sign → Type 0) (block_a : Blocks A) (block_b : Blocks B) (round : ℕ) (part : GrammarPart) (signs : List Sign) (m n : ℕ)
-    → GoesOnWithin round part [] → StopsBehind A round part signs m → StopsBehind B round part signs n → m ≡ n
-same_number A B block_a block_b round part signs m n goes a b =
-    let same = stops_once A B block_a block_b round part signs m n goes a b in
-    sym a.before ∙ ap (λ front. length (tokens_of front)) same.fronts ∙ b.before
+module _ (Reads Within : List Sign → Node → Type 0) (within_reads : (signs : List Sign) (node : Node) → Within signs node → Reads signs node) (signs : List Sign) where
+  pub refused_once : (m n : ℕ) → StopsBehind (GoesOn Within) (Refuses Reads) signs m → StopsBehind (GoesOn Within) (Refuses Reads) signs n → m ≡ n
+  refused_once m n a b = same_number (GoesOn Within) (Refuses Reads) (Refuses Reads) (refusals_block Reads Within within_reads) (refusals_block Reads Within within_reads) signs m n a b
 
-pub stopped_once : (round : ℕ) (part : GrammarPart) (signs : List Sign) (m n : ℕ) → GoesOnWithin round part [] → StopsAt round part signs m → StopsAt round part signs n → m ≡ n
-stopped_once = same_number (λ round. Refuses) (λ round. Refuses) refusals_block refusals_block
+  pub too_deep_once : (m n : ℕ) → StopsBehind (GoesOn Within) (Limits Reads Within) signs m → StopsBehind (GoesOn Within) (Limits Reads Within) signs n → m ≡ n
+  too_deep_once m n a b = same_number (GoesOn Within) (Limits Reads Within) (Limits Reads Within) (limits_block Reads Within) (limits_block Reads Within) signs m n a b
 
-pub limited_once : (round : ℕ) (part : GrammarPart) (signs : List Sign) (m n : ℕ) → GoesOnWithin round part [] → IsLimitedAt round part signs m → IsLimitedAt round part signs n → m ≡ n
-limited_once = same_number Limits Limits limits_block limits_block
+  both_stop : (front rest : List Sign) → Refuses Reads front rest → Limits Reads Within front rest → ⊥
+  both_stop front [] refuses limits = limits
+  both_stop front (comment text ∷ rest) refuses limits = limits
+  both_stop front (token note lexeme ∷ rest) refuses limits =
+      let goes = limits.0 in
+      refuses goes.more goes.node (subst (λ signs. Reads signs goes.node) (append_assoc front (token note lexeme ∷ []) goes.more) goes.reads)
 
-both_stop : (round : ℕ) (part : GrammarPart) (front rest : List Sign) → Refuses part front rest → Limits round part front rest → ⊥
-both_stop round part front [] refuses limits = limits
-both_stop round part front (comment text ∷ rest) refuses limits = limits
-both_stop round part front (token note lexeme ∷ rest) refuses limits =
-    let goes = limits.0 in
-    refuses goes.more goes.node (subst (λ signs. GrammarReads part signs goes.node) (append_assoc front (token note lexeme ∷ []) goes.more) goes.reads)
+  pub refused_or_too_deep : (m n : ℕ) → StopsBehind (GoesOn Within) (Refuses Reads) signs m → StopsBehind (GoesOn Within) (Limits Reads Within) signs n → ⊥
+  refused_or_too_deep m n a b =
+      let same = stops_once (GoesOn Within) (Refuses Reads) (Limits Reads Within) (refusals_block Reads Within within_reads) (limits_block Reads Within) signs m n a b in
+      both_stop b.front b.rest (subst (λ rest. Refuses Reads b.front rest) same.rests (subst (λ front. Refuses Reads front a.rest) same.fronts a.stops)) b.stops
 
-pub stopped_or_limited : (round : ℕ) (part : GrammarPart) (signs : List Sign) (m n : ℕ) → GoesOnWithin round part [] → StopsAt round part signs m → IsLimitedAt round part signs n → ⊥
-stopped_or_limited round part signs m n goes a b =
-    let same = stops_once (λ round. Refuses) Limits refusals_block limits_block round part signs m n goes a b in
-    both_stop round part b.front b.rest (subst (λ rest. Refuses part b.front rest) same.rests (subst (λ front. Refuses part front a.rest) same.fronts a.stops)) b.stops
+-- of one part
+within_reads : (round : ℕ) (part : GrammarPart) (signs : List Sign) (node : Node) → ReadsWithin round part signs node → GrammarReads part signs node
+within_reads round part signs node reads = reads.reading
 
-refused_unread : (part : GrammarPart) (front rest : List Sign) (node : Node) → Refuses part front rest → GrammarReads part (front ++ rest) node → ⊥
-refused_unread part front [] node refuses reads = refuses node (subst (λ signs. GrammarReads part signs node) (append-nil front) reads)
-refused_unread part front (comment text ∷ rest) node refuses reads = refuses
-refused_unread part front (token note lexeme ∷ rest) node refuses reads = refuses rest node reads
+pub stopped_once : (round : ℕ) (part : GrammarPart) (signs : List Sign) (m n : ℕ) → StopsAt round part signs m → StopsAt round part signs n → m ≡ n
+stopped_once round part = refused_once (GrammarReads part) (ReadsWithin round part) (within_reads round part)
 
-limited_unread : (round : ℕ) (part : GrammarPart) (front rest : List Sign) (node : Node) → Limits round part front rest → ReadsWithin round part (front ++ rest) node → ⊥
-limited_unread round part front [] node limits reads = limits
-limited_unread round part front (comment text ∷ rest) node limits reads = limits
-limited_unread round part front (token note lexeme ∷ rest) node limits reads = limits.1 rest node reads
+pub limited_once : (round : ℕ) (part : GrammarPart) (signs : List Sign) (m n : ℕ) → IsLimitedAt round part signs m → IsLimitedAt round part signs n → m ≡ n
+limited_once round part = too_deep_once (GrammarReads part) (ReadsWithin round part) (within_reads round part)
+
+pub stopped_or_limited : (round : ℕ) (part : GrammarPart) (signs : List Sign) (m n : ℕ) → StopsAt round part signs m → IsLimitedAt round part signs n → ⊥
+stopped_or_limited round part = refused_or_too_deep (GrammarReads part) (ReadsWithin round part) (within_reads round part)
+
+-- ---- a text that is read has no fault
+
+pub refused_unread : (Reads : List Sign → Node → Type 0) (front rest : List Sign) (node : Node) → Refuses Reads front rest → Reads (front ++ rest) node → ⊥
+refused_unread Reads front [] node refuses reads = refuses node (subst (λ signs. Reads signs node) (append-nil front) reads)
+refused_unread Reads front (comment text ∷ rest) node refuses reads = refuses
+refused_unread Reads front (token note lexeme ∷ rest) node refuses reads = refuses rest node reads
+
+pub limited_unread : (Reads Within : List Sign → Node → Type 0) (front rest : List Sign) (node : Node) → Limits Reads Within front rest → Within (front ++ rest) node → ⊥
+limited_unread Reads Within front [] node limits reads = limits
+limited_unread Reads Within front (comment text ∷ rest) node limits reads = limits
+limited_unread Reads Within front (token note lexeme ∷ rest) node limits reads = limits.1 rest node reads
 
 pub read_or_stopped : (round : ℕ) (part : GrammarPart) (signs : List Sign) (node : Node) (n : ℕ) → ReadsWithin round part signs node → StopsAt round part signs n → ⊥
-read_or_stopped round part signs node n reads a = refused_unread part a.front a.rest node a.stops (subst (λ signs. GrammarReads part signs node) a.whole reads.reading)
+read_or_stopped round part signs node n reads a = refused_unread (GrammarReads part) a.front a.rest node a.stops (subst (λ signs. GrammarReads part signs node) a.whole reads.reading)
 
 pub read_or_limited : (round : ℕ) (part : GrammarPart) (signs : List Sign) (node : Node) (n : ℕ) → ReadsWithin round part signs node → IsLimitedAt round part signs n → ⊥
-read_or_limited round part signs node n reads a = limited_unread round part a.front a.rest node a.stops (subst (λ signs. ReadsWithin round part signs node) a.whole reads)
+read_or_limited round part signs node n reads a = limited_unread (GrammarReads part) (ReadsWithin round part) a.front a.rest node a.stops (subst (λ signs. ReadsWithin round part signs node) a.whole reads)

@@ -20,49 +20,46 @@ pub record ReadsWithin (round : ℕ) (part : GrammarPart) (signs : List Sign) (n
   pub steps : nesting_of is_step node ≤ MOST_NESTED_STEPS
   pub opened : open_in 0 signs ≤ MOST_OPEN
 
--- some text that begins so is read within the limits
-pub record GoesOnWithin (round : ℕ) (part : GrammarPart) (front : List Sign) : Type 0 where
+-- some text that begins so is read
+pub record GoesOn (Reads : List Sign → Node → Type 0) (front : List Sign) : Type 0 where
   pub more : List Sign
   pub fitting : are_signs more ≡ true
   pub node : Node
-  pub reads : ReadsWithin round part (front ++ more) node
+  pub reads : Reads (front ++ more) node
 
--- some text that begins so is read, apart from the limits
-pub record GoesOn (part : GrammarPart) (front : List Sign) : Type 0 where
-  pub more : List Sign
-  pub fitting : are_signs more ≡ true
-  pub node : Node
-  pub reads : GrammarReads part (front ++ more) node
+-- the same within the limits
+abbrev pub GoesOnWithin : ℕ → GrammarPart → List Sign → Type 0
+GoesOnWithin round part front = GoesOn (ReadsWithin round part) front
 
 -- ---- where reading stops
 
 -- With the next token no text is read, or the text ends here and isn't. No comment is at fault.
-abbrev pub Refuses : GrammarPart → List Sign → List Sign → Type 0
-Refuses part front [] = (node : Node) → GrammarReads part front node → ⊥
-Refuses part front (token note lexeme ∷ rest) = (other : List Sign) (node : Node) → GrammarReads part (front ++ token note lexeme ∷ other) node → ⊥
-Refuses part front (comment text ∷ rest) = ⊥
+abbrev pub Refuses : (List Sign → Node → Type 0) → List Sign → List Sign → Type 0
+Refuses Reads front [] = (node : Node) → Reads front node → ⊥
+Refuses Reads front (token note lexeme ∷ rest) = (other : List Sign) (node : Node) → Reads (front ++ token note lexeme ∷ other) node → ⊥
+Refuses Reads front (comment text ∷ rest) = ⊥
 
 -- the same within the limits, where texts without these limits go on
-abbrev pub Limits : ℕ → GrammarPart → List Sign → List Sign → Type 0
-Limits round part front [] = ⊥
-Limits round part front (token note lexeme ∷ rest) =
-    GoesOn part (front ++ token note lexeme ∷ []) × ((other : List Sign) (node : Node) → ReadsWithin round part (front ++ token note lexeme ∷ other) node → ⊥)
-Limits round part front (comment text ∷ rest) = ⊥
+abbrev pub Limits : (List Sign → Node → Type 0) → (List Sign → Node → Type 0) → List Sign → List Sign → Type 0
+Limits Reads Within front [] = ⊥
+Limits Reads Within front (token note lexeme ∷ rest) =
+    GoesOn Reads (front ++ token note lexeme ∷ []) × ((other : List Sign) (node : Node) → Within (front ++ token note lexeme ∷ other) node → ⊥)
+Limits Reads Within front (comment text ∷ rest) = ⊥
 
--- The signs before a fault, with so many tokens among them, begin a text that is read within the limits, if any text is; `Stops` says what is wrong with what follows.
-pub record StopsBehind (Stops : ℕ → GrammarPart → List Sign → List Sign → Type 0) (round : ℕ) (part : GrammarPart) (signs : List Sign) (n : ℕ) : Type 0 where
+-- The signs before a fault, with so many tokens among them, begin a text, unless there are none of these tokens and no text at all; `Stops` says what is wrong with what follows.
+pub record StopsBehind (Goes : List Sign → Type 0) (Stops : List Sign → List Sign → Type 0) (signs : List Sign) (n : ℕ) : Type 0 where
   pub front : List Sign
   pub rest : List Sign
   pub whole : signs ≡ front ++ rest
   pub before : length (tokens_of front) ≡ n
-  pub goes_on : GoesOnWithin round part [] → GoesOnWithin round part front
-  pub stops : Stops round part front rest
+  pub goes_on : (n ≡ 0 → Goes []) → Goes front
+  pub stops : Stops front rest
 
 abbrev pub StopsAt : ℕ → GrammarPart → List Sign → ℕ → Type 0
-StopsAt round part signs n = StopsBehind (λ round. Refuses) round part signs n
+StopsAt round part signs n = StopsBehind (GoesOnWithin round part) (Refuses (GrammarReads part)) signs n
 
 abbrev pub IsLimitedAt : ℕ → GrammarPart → List Sign → ℕ → Type 0
-IsLimitedAt round part signs n = StopsBehind Limits round part signs n
+IsLimitedAt round part signs n = StopsBehind (GoesOnWithin round part) (Limits (GrammarReads part) (ReadsWithin round part)) signs n
 
 -- ---- what the table says
 

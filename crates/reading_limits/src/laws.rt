@@ -7,6 +7,7 @@ ghost use Rattle.ada_tree.specs.declared.part.Part.{Part as APart};
 ghost use Rattle.ada_tree.specs.Tokens.{Sign};
 ghost use Rattle.reading_table.specs.Limits.{read, stopped, limited};
 ghost use Rattle.reading_table.specs.Spelled.{has_texts};
+ghost use Rattle.reading_table.specs.Signs.{tokens_of};
 ghost use Rattle.reading_table.specs.States.{State};
 ghost use Rattle.reading_exact.specs.Whole.{are_signs};
 ghost use Rattle.reading_limits.specs.Viable.{ReadsWithin, TableReadsWithin, ReadsNode, GoesOnWithin, StopsAt, IsLimitedAt, read_within, read_weighed};
@@ -18,7 +19,7 @@ pub fn the_table_reads_within_limits()
     ensures read { (round : ℕ) (part : APart) (signs : List Sign) (node : ANode)
         → has_texts part ≡ true → ReadsWithin round part signs node → TableReadsWithin round part signs node }
     ensures derived { (round : ℕ) (part : APart) (signs : List Sign) (state : State)
-        → round ≤ MOST_NESTED → has_texts part ≡ true → are_signs signs ≡ true → read_within round part signs ≡ read state
+        → (tokens_of signs ≡ [] → round ≤ MOST_NESTED) → has_texts part ≡ true → are_signs signs ≡ true → read_within round part signs ≡ read state
         → ReadsNode round part signs state }
 {}
 
@@ -42,11 +43,11 @@ pub fn limits_need_no_look_at_trees()
 /// A text of a part is read, or reading stops in it at one place and for one reason.
 pub fn reading_ends_in_one_way()
     ensures stopped { (round : ℕ) (part : APart) (signs : List Sign) (m n : ℕ)
-        → GoesOnWithin round part [] → StopsAt round part signs m → StopsAt round part signs n → m ≡ n }
+        → StopsAt round part signs m → StopsAt round part signs n → m ≡ n }
     ensures limited { (round : ℕ) (part : APart) (signs : List Sign) (m n : ℕ)
-        → GoesOnWithin round part [] → IsLimitedAt round part signs m → IsLimitedAt round part signs n → m ≡ n }
+        → IsLimitedAt round part signs m → IsLimitedAt round part signs n → m ≡ n }
     ensures one_reason { (round : ℕ) (part : APart) (signs : List Sign) (m n : ℕ)
-        → GoesOnWithin round part [] → StopsAt round part signs m → IsLimitedAt round part signs n → ⊥ }
+        → StopsAt round part signs m → IsLimitedAt round part signs n → ⊥ }
     ensures not_stopped { (round : ℕ) (part : APart) (signs : List Sign) (node : ANode) (n : ℕ)
         → ReadsWithin round part signs node → StopsAt round part signs n → ⊥ }
     ensures not_limited { (round : ℕ) (part : APart) (signs : List Sign) (node : ANode) (n : ℕ)

@@ -14,7 +14,7 @@ use Rattle.lex_ada.specs.Lexis.{AreTokens}
 use Rattle.lex_ada.proofs.lexing.Refusals.{refused_fault}
 use Rattle.lex_ada.proofs.lexing.Scanning.{scanned_lexed}
 use Rattle.lex_ada.proofs.lexing.Unique.{tokens_once, no_fault_with_tokens}
-use Rattle.note_read.specs.Values.{only_node}
+use Rattle.reading_machine.specs.Values.{only_node}
 use Rattle.reading_limits.specs.Viable.{read_within}
 use Rattle.reading_table.specs.declared.held.Held.TheVariants as held
 use Rattle.reading_table.specs.Limits.{Outcome, read, stopped, limited}

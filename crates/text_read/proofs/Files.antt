@@ -12,8 +12,9 @@ use Rattle.lex_ada.specs.Faults.{Answers, Gives}
 use Rattle.text_read.proofs.Ends.{gives_fault}
 use Rattle.ada_tree.specs.declared.doc.Counts.{Counts}
 use Rattle.ada_tree.specs.declared.node.Node.{Node}
-use Rattle.note_read.specs.Bare.{is_tree, held_count, count_in, greatest_count, counts_with, nothing, passes, counted_from, CountedOutcome, kept, too_many as more}
-use Rattle.note_read.specs.Values.{only_node}
+use Rattle.note_read.specs.Counted.{counted_from, CountedOutcome, kept, too_many as more}
+use Rattle.reading_machine.specs.Bare.{is_tree, held_count, count_in, greatest_count, counts_with, nothing, passes}
+use Rattle.reading_machine.specs.Values.{only_node}
 use Rattle.reading_table.specs.declared.held.Held.TheVariants as held
 use Rattle.reading_table.specs.Limits.{Outcome, read, stopped, limited}
 use Rattle.reading_table.specs.States.{State}
@@ -151,7 +152,7 @@ pub counted_within : (bytes : List ℕ) (tokens own : List Token) (line : List S
 counted_within bytes tokens own line r e f h =
     h ∙ ap (λ line. counted_from (Some most) nothing (read_by_table 0 (placed false line) (meanings bytes own))) f
     ∙ ap (λ ts. counted_from (Some most) nothing (read_by_table 0 (placed false (whole_line (rule.Of kind.File))) (meanings bytes ts))) e
-    ∙ ap (counted_from (Some most) nothing) (read_as file_part (signs_in file_part bytes tokens) refl)
+    ∙ ap (counted_from (Some most) nothing) (read_as 0 file_part (signs_in file_part bytes tokens) refl)
 
 -- few nodes were read, or the text isn't read
 pub kept_answer : (bytes : List ℕ) (tokens : List Token) (outcome reading : Outcome) → IsOneNode outcome → answer_at bytes tokens outcome ≡ answer_of file_part bytes → kept reading ≡ counted_from (Some most) nothing outcome

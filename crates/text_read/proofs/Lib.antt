@@ -1,5 +1,13 @@
+pub mod Begins
 pub mod Ends
+pub mod Exactly
 pub mod Files
+pub mod FirstWords
 pub mod Lines
 pub mod Once
+pub mod OneOf
+pub mod OnePart
+pub mod Sources
 pub mod Texts
+pub mod Told
+pub mod Unique

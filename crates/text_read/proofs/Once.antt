@@ -14,10 +14,9 @@ use Rattle.lex_ada.specs.Lexis.{AreTokens}
 use Rattle.lex_ada.proofs.lexing.Refusals.{refused_fault}
 use Rattle.lex_ada.proofs.lexing.Scanning.{scanned_lexed}
 use Rattle.lex_ada.proofs.lexing.Unique.{tokens_once, fault_once, no_fault_with_tokens}
-use Rattle.note_read.specs.Values.{only_node}
+use Rattle.reading_machine.specs.Values.{only_node}
 use Rattle.reading_exact.proofs.Law.{one_reading}
 use Rattle.reading_limits.specs.Viable.{ReadsWithin, StopsAt, IsLimitedAt, read_within}
-use Rattle.reading_limits.proofs.Law.{some_text}
 use Rattle.reading_limits.proofs.Once as once
 use Rattle.reading_table.specs.Limits.{Outcome, read, stopped, limited}
 use Rattle.reading_table.specs.Spelled.{has_texts}
@@ -62,19 +61,19 @@ fault_of_once part bytes a b h (too_deep x) (no_tokens {code} {line} y) = absurd
 fault_of_once part bytes a b h (refused x) (refused y) =
     let same = tokens_once bytes x.tokens y.tokens x.are_tokens y.are_tokens in
     let stops = subst (λ ts. StopsAt 0 part (signs_in part bytes ts) x.n) same x.stops in
-    same_fault part bytes code_behind x.tokens y.tokens x.n y.n a b same (once.stopped_once 0 part (signs_in part bytes y.tokens) x.n y.n (some_text part h) stops y.stops) x.fault_is y.fault_is
+    same_fault part bytes code_behind x.tokens y.tokens x.n y.n a b same (once.stopped_once 0 part (signs_in part bytes y.tokens) x.n y.n stops y.stops) x.fault_is y.fault_is
 fault_of_once part bytes a b h (too_deep x) (too_deep y) =
     let same = tokens_once bytes x.tokens y.tokens x.are_tokens y.are_tokens in
     let stops = subst (λ ts. IsLimitedAt 0 part (signs_in part bytes ts) x.n) same x.stops in
-    same_fault part bytes (λ bytes tokens n. F04) x.tokens y.tokens x.n y.n a b same (once.limited_once 0 part (signs_in part bytes y.tokens) x.n y.n (some_text part h) stops y.stops) x.fault_is y.fault_is
+    same_fault part bytes (λ bytes tokens n. F04) x.tokens y.tokens x.n y.n a b same (once.limited_once 0 part (signs_in part bytes y.tokens) x.n y.n stops y.stops) x.fault_is y.fault_is
 fault_of_once part bytes a b h (refused x) (too_deep y) =
     let same = tokens_once bytes x.tokens y.tokens x.are_tokens y.are_tokens in
     let stops = subst (λ ts. StopsAt 0 part (signs_in part bytes ts) x.n) same x.stops in
-    absurd (once.stopped_or_limited 0 part (signs_in part bytes y.tokens) x.n y.n (some_text part h) stops y.stops)
+    absurd (once.stopped_or_limited 0 part (signs_in part bytes y.tokens) x.n y.n stops y.stops)
 fault_of_once part bytes a b h (too_deep x) (refused y) =
     let same = tokens_once bytes x.tokens y.tokens x.are_tokens y.are_tokens in
     let stops = subst (λ ts. IsLimitedAt 0 part (signs_in part bytes ts) x.n) same x.stops in
-    absurd (once.stopped_or_limited 0 part (signs_in part bytes y.tokens) y.n x.n (some_text part h) y.stops stops)
+    absurd (once.stopped_or_limited 0 part (signs_in part bytes y.tokens) y.n x.n y.stops stops)
 
 -- ---- the function
 

@@ -40,11 +40,11 @@ line_with : (note : Bool) (line : Line) (commented : Bool)
 line_with note line true = ap (λ rest. (note, symbol.Notes) ∷ rest) (map-append (λ s. (note, s)) line (symbol.Noted ∷ []))
 line_with note line false = refl
 
-whole_is : (part : Part) → placed (is_noted part) (whole_line part.rule) ≡ whole_start part
+pub whole_is : (part : Part) → placed (is_noted part) (whole_line part.rule) ≡ whole_start part
 whole_is part = line_with (is_noted part) (start_line (place_of part.rule)) (takes_comments (place_of part.rule))
 
-pub read_as : (part : Part) (signs : List Sign) → has_texts part ≡ true → read_by_table 0 (placed (is_noted part) (whole_line part.rule)) signs ≡ read_within 0 part signs
-read_as part signs h = ap (λ ss. read_by_table 0 ss signs) (whole_is part) ∙ weighed_is_within 0 part signs h
+pub read_as : (round : ℕ) (part : Part) (signs : List Sign) → has_texts part ≡ true → read_by_table round (placed (is_noted part) (whole_line part.rule)) signs ≡ read_within round part signs
+read_as round part signs h = ap (λ ss. read_by_table round ss signs) (whole_is part) ∙ weighed_is_within round part signs h
 
 -- the tokens and comments of a text of a part are ones that there are in texts
 pub signs_fit : (part : Part) (bytes : List ℕ) (tokens : List Token) → AreTokens bytes tokens → are_signs (signs_in part bytes tokens) ≡ true
@@ -62,7 +62,7 @@ pub record Gives (part : Part) (bytes : List ℕ) (state : State) : Type 0 where
 
 pub gives : (part : Part) (bytes : List ℕ) (tokens : List Token) (state : State) → has_texts part ≡ true → AreTokens bytes tokens → read_within 0 part (signs_in part bytes tokens) ≡ read state → Gives part bytes state
 gives part bytes tokens state h a r =
-    let g = is_derived_within 0 part (signs_in part bytes tokens) state (omega arith) h (signs_fit part bytes tokens a) r in
+    let g = is_derived_within 0 part (signs_in part bytes tokens) state (λ none. omega arith) h (signs_fit part bytes tokens a) r in
     record { node = g.node; only = g.only; text = record { tokens = tokens; are_tokens = a; reads = g.reads } }
 
 pub refuses : (part : Part) (bytes : List ℕ) (tokens : List Token) (n : ℕ) → has_texts part ≡ true → AreTokens bytes tokens → read_within 0 part (signs_in part bytes tokens) ≡ stopped n → StopsAt 0 part (signs_in part bytes tokens) n
@@ -73,11 +73,14 @@ limits part bytes tokens n h a r = is_limited 0 part (signs_in part bytes tokens
 
 -- ---- the call
 
+pub noted_tokens_lie : (bytes : List ℕ) (tokens : List Token) → AreTokens bytes tokens → All (λ t. LiesIn t bytes) (noted_tokens bytes tokens)
+noted_tokens_lie bytes tokens a = All-map (λ t. LiesIn t bytes) (noted_token bytes) tokens (tokens_lie bytes tokens a)
+
 pub own_tokens_lie : (part : Part) (bytes : List ℕ) (tokens : List Token) → AreTokens bytes tokens → All (λ t. LiesIn t bytes) (tokens_in part bytes tokens)
 own_tokens_lie part bytes tokens a = by (has_noted_tokens part)
   where
     by : (noted : Bool) → All (λ t. LiesIn t bytes) (if noted then noted_tokens bytes tokens else tokens)
-    by true = All-map (λ t. LiesIn t bytes) (noted_token bytes) tokens (tokens_lie bytes tokens a)
+    by true = noted_tokens_lie bytes tokens a
     by false = tokens_lie bytes tokens a
 
 pub without_tokens : (part : Part) (bytes : List ℕ) (stop : Stop) → Answers (Err stop) bytes → OnFault (IsFaultOf part bytes) stop

@@ -8,7 +8,7 @@ use Rattle.lex_ada.specs.declared.scan.Refusal.{Refusal}
 use Rattle.lex_ada.specs.declared.token.Token.{Token}
 use Rattle.lex_ada.specs.Cutting.{scanned}
 use Rattle.lex_ada.specs.Faults.{code_at, fault_in}
-use Rattle.note_read.specs.Values.{only_node}
+use Rattle.reading_machine.specs.Values.{only_node}
 use Rattle.reading_limits.specs.Viable.{read_within}
 use Rattle.reading_table.specs.declared.held.Held.TheVariants as held
 use Rattle.reading_table.specs.Limits.{Outcome, read, stopped, limited}

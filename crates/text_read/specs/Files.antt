@@ -9,7 +9,7 @@ use Rattle.ada_tree.specs.declared.node.Node.{Node}
 use Rattle.ada_tree.specs.declared.part.Part.{Part}
 use Rattle.ada_tree.specs.declared.part.Rule.TheVariants as rule
 use Rattle.ada_tree.specs.Nodes.{count_of, is_step}
-use Rattle.note_read.specs.Bare.{is_tree, greatest_count}
+use Rattle.reading_machine.specs.Bare.{is_tree, greatest_count}
 use Rattle.text_read.specs.declared.limits.TheConstants.{MOST_NODES, MOST_STEPS}
 use Rattle.text_read.specs.Answers.{answer_of}
 use Rattle.text_read.specs.Faults.{IsFaultOf}

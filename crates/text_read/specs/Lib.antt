@@ -1,4 +1,8 @@
 pub mod Answers
+pub mod Exactly
 pub mod Faults
 pub mod Files
+pub mod FirstWords
 pub mod Fragments
+pub mod Fronts
+pub mod Told

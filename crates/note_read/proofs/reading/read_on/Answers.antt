@@ -1,21 +1,13 @@
-use Rattle.std.proofs.Common.{arith, rules, ℕ, suc, List, ◌≡◌, ◌≤◌, ◌+◌, [], ◌∷◌, All, length, sym, ◌∙◌, ap, subst, Some}
-use Rattle.std.proofs.lemmas.List.Elements.{All-tail}
+use Rattle.std.proofs.Common.{arith, rules, ◌≡◌, ◌+◌, [], ◌∷◌, length, sym, ◌∙◌, ap, subst, Some}
 use Rattle.ada_tree.specs.Tokens.{token, comment}
-use Rattle.lex_ada.specs.declared.token.Token.{Token as SourceToken}
-use Rattle.lex_ada.specs.Meanings.{LiesIn, meaning, meanings, bytes_of}
-use Rattle.note_read.specs.declared.machine.Fed.TheVariants as fed_as
-use Rattle.note_read.specs.Lexemes.{lexeme_of, token_of}
-use Rattle.note_read.specs.Machines.{FeedsWithin, progress_of, commented}
+use Rattle.lex_ada.specs.Meanings.{meaning, meanings, bytes_of}
+use Rattle.reading_machine.specs.declared.machine.Fed.TheVariants as fed_as
+use Rattle.reading_machine.specs.Lexemes.{lexeme_of, token_of}
+use Rattle.reading_machine.specs.Machines.{FeedsWithin, progress_of, commented}
 use Rattle.note_read.specs.Signs.{signs_of}
+use Rattle.note_read.proofs.Tails.{tail_lies, fewer}
 use Rattle.note_read.proofs.Thin.{none_here, comment_here, token_here, thinned_ends}
 use Rattle.note_read.proofs.reading.read_on.Goals as goal
-
--- the tokens that are left lie in the source, and are fewer
-tail_lies : (source : List ℕ) (ts : List SourceToken) (t : SourceToken) (rest : List SourceToken) → ts ≡ t ∷ rest → All (λ t. LiesIn t source) ts → All (λ t. LiesIn t source) rest
-tail_lies source ts t rest e h = All-tail (λ t. LiesIn t source) t rest (subst (All (λ t. LiesIn t source)) e h)
-
-fewer : (count all : ℕ) (ts : List SourceToken) (t : SourceToken) (rest : List SourceToken) → ts ≡ t ∷ rest → count + length ts ≤ all → count + 1 + length rest ≤ all
-fewer count all ts t rest e h = let longer : length ts ≡ suc (length rest) = ap length e in omega (arith, longer, h)
 
 pub loop-token-preserved-in-None : goal.loop-token-preserved-in-None
 loop-token-preserved-in-None c =

@@ -2,8 +2,9 @@ use Rattle.std.proofs.Common.{◌≡◌, ◌+◌, ◌≤◌, All, length}
 use Rattle.lex_ada.specs.Meanings.{LiesIn, meanings}
 use Rattle.note_read.proofs.Thin.{ends}
 use Rattle.note_read.proofs.reading.read_on.Given as goal
-use Rattle.note_read.specs.Bare.{counted_from, nothing}
-use Rattle.note_read.specs.Machines.{progress_of}
+use Rattle.note_read.specs.Counted.{counted_from}
+use Rattle.reading_machine.specs.Bare.{nothing}
+use Rattle.reading_machine.specs.Machines.{progress_of}
 use Rattle.note_read.specs.Signs.{read_signs}
 
 -- what all tokens are read as is what those that are left are read as, behind those before them, with what was lost

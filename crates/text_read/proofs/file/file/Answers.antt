@@ -2,7 +2,8 @@ use Rattle.std.proofs.Common.{◌≡◌, rules, refl, sym, ◌∙◌, ap, subst,
 use Rattle.lex_ada.specs.Faults.{Gives}
 use Rattle.lex_ada.specs.Meanings.{LiesIn}
 use Rattle.note_read.proofs.Lying.{tokens_lie}
-use Rattle.note_read.specs.Bare.{kept, too_many as more, counted_of, counted_from, nothing}
+use Rattle.note_read.specs.Counted.{kept, too_many as more, counted_of, counted_from}
+use Rattle.reading_machine.specs.Bare.{nothing}
 use Rattle.note_read.specs.Signs.{outcome_of}
 use Rattle.reading_limits.specs.Viable.{read_within}
 use Rattle.text_read.specs.Answers.{answer_at}

@@ -1,4 +1,0 @@
-use Rattle.note_read.proofs.masses.+take_highest.Given as goal
-
-abbrev pub decreases-take_highest : goal.decreases-take_highest
-decreases-take_highest l = l.count

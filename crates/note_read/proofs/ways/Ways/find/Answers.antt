@@ -1,6 +1,0 @@
-use Rattle.note_read.specs.Lexemes.{token_of}
-use Rattle.note_read.proofs.Known.{found_known}
-use Rattle.note_read.proofs.ways.Ways.find.Goals as goal
-
-pub invariant_of-t-18 : goal.invariant_of-t-18
-invariant_of-t-18 c = record { right = found_known c.args.note c.args.rule (token_of c.args.token.now) c.in_ok-way.way c.args.sight c.in_ok-way.ensures c.requires }

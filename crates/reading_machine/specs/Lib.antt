@@ -1,0 +1,11 @@
+pub mod Bare
+pub mod Finds
+pub mod Lexemes
+pub mod Loads
+pub mod Machines
+pub mod Needs
+pub mod Rows
+pub mod Sights
+pub mod Values
+pub mod Views
+pub mod Ways
