@@ -1,6 +1,7 @@
 // Reading texts by the table.
 use crate::documents::Row;
 use crate::names::tree;
+use crate::nests::Nest;
 use ada_tree::{Kind, Node, is_same};
 use base_kit::{Memory, Stop};
 use note_read::{Reading, read_text};
@@ -89,7 +90,7 @@ fn read(alloc: Global, rule: Rule, text: &str) -> Result<Option<Node>, Memory> {
 }
 
 // Whether there is a node, and it is the tree of these rows.
-fn is_tree(alloc: Global, node: Option<&Node>, rows: &[Row]) -> Result<bool, Memory> {
+pub fn is_tree(alloc: Global, node: Option<&Node>, rows: &[Row]) -> Result<bool, Memory> {
     let Some(node) = node else {
         return Ok(false);
     };
@@ -119,19 +120,7 @@ fn texts_are_read_by_the_table(rt: HostRuntime) {
 
 // ---- limits
 
-// Texts of a rule: how they begin, what is repeated, what stands inside, what closes it, as often, and how they end.
-#[derive(Clone, Copy)]
-struct Nest {
-    rule: Rule,
-    front: &'static str,
-    opening: &'static str,
-    inside: &'static str,
-    closing: &'static str,
-    back: &'static str,
-}
-
 const IFS: Nest = Nest {
-    rule: Rule::Stmt,
     front: "",
     opening: "if A then ",
     inside: "null; ",
@@ -140,7 +129,6 @@ const IFS: Nest = Nest {
 };
 
 const PARENTHESES: Nest = Nest {
-    rule: Rule::Stmt,
     front: "A := ",
     opening: "(",
     inside: "B",
@@ -149,7 +137,6 @@ const PARENTHESES: Nest = Nest {
 };
 
 const WRONG_INSIDE: Nest = Nest {
-    rule: Rule::Stmt,
     front: "A := ",
     opening: "(",
     inside: "B C",
@@ -158,7 +145,6 @@ const WRONG_INSIDE: Nest = Nest {
 };
 
 const SUM: Nest = Nest {
-    rule: Rule::Stmt,
     front: "A := ",
     opening: "-B + ",
     inside: "C",
@@ -167,7 +153,6 @@ const SUM: Nest = Nest {
 };
 
 const SELECTIONS: Nest = Nest {
-    rule: Rule::Stmt,
     front: "A := B",
     opening: ".C",
     inside: "",
@@ -176,7 +161,6 @@ const SELECTIONS: Nest = Nest {
 };
 
 const ASSERTION: Nest = Nest {
-    rule: Rule::Assert,
     front: "--| assert ",
     opening: "(",
     inside: "store(A, 1, 2)",
@@ -185,7 +169,6 @@ const ASSERTION: Nest = Nest {
 };
 
 const STEPS: Nest = Nest {
-    rule: Rule::Proof,
     front: "--| proof of P.entry.1 is open",
     opening: " [open",
     inside: "",
@@ -201,49 +184,30 @@ enum End {
     Limited(usize),
 }
 
-// A text, how often its part is repeated, how many nodes that count stand round it, and how it is read there.
-type Nested = (Nest, usize, usize, End);
+// A rule, a text, how often its part is repeated, how many nodes that count stand round it, and how it is read there.
+type Nested = (Rule, Nest, usize, usize, End);
 
 const NESTED: &[Nested] = &[
-    (IFS, 63, 0, End::Read),
+    (Rule::Stmt, IFS, 63, 0, End::Read),
     // With the 64th `if` one node too many would stand inside.
-    (IFS, 64, 0, End::Limited(189)),
-    (IFS, 62, 1, End::Read),
-    (IFS, 63, 1, End::Limited(186)),
-    (PARENTHESES, 64, 0, End::Read),
-    (PARENTHESES, 65, 0, End::Limited(66)),
-    (WRONG_INSIDE, 65, 0, End::Limited(66)),
-    (WRONG_INSIDE, 64, 0, End::Refused(67)),
-    (SUM, 1, 0, End::Refused(6)),
+    (Rule::Stmt, IFS, 64, 0, End::Limited(189)),
+    (Rule::Stmt, IFS, 62, 1, End::Read),
+    (Rule::Stmt, IFS, 63, 1, End::Limited(186)),
+    (Rule::Stmt, PARENTHESES, 64, 0, End::Read),
+    (Rule::Stmt, PARENTHESES, 65, 0, End::Limited(66)),
+    (Rule::Stmt, WRONG_INSIDE, 65, 0, End::Limited(66)),
+    (Rule::Stmt, WRONG_INSIDE, 64, 0, End::Refused(67)),
+    (Rule::Stmt, SUM, 1, 0, End::Refused(6)),
     // The name is one node, and each selection one more round it.
-    (SELECTIONS, 62, 0, End::Read),
-    (SELECTIONS, 63, 0, End::Limited(127)),
+    (Rule::Stmt, SELECTIONS, 62, 0, End::Read),
+    (Rule::Stmt, SELECTIONS, 63, 0, End::Limited(127)),
     // With `store` a parenthesis must open.
-    (ASSERTION, 63, 0, End::Read),
-    (ASSERTION, 64, 0, End::Limited(65)),
-    (STEPS, 199, 0, End::Read),
+    (Rule::Assert, ASSERTION, 63, 0, End::Read),
+    (Rule::Assert, ASSERTION, 64, 0, End::Limited(65)),
+    (Rule::Proof, STEPS, 199, 0, End::Read),
     // With `[` a step must stand inside.
-    (STEPS, 200, 0, End::Limited(407)),
+    (Rule::Proof, STEPS, 200, 0, End::Limited(407)),
 ];
-
-fn add_repeated(text: &mut Vec<u8>, piece: &str, count: usize) -> Result<(), Memory> {
-    for _ in 0..count {
-        text.extend_from_slice(piece.as_bytes())?;
-    }
-    Ok(())
-}
-
-impl Nest {
-    // The text with its part so often.
-    fn text(&self, alloc: Global, count: usize) -> Result<Vec<u8>, Memory> {
-        let mut text = self.front.as_bytes().to_vec(alloc)?;
-        add_repeated(&mut text, self.opening, count)?;
-        text.extend_from_slice(self.inside.as_bytes())?;
-        add_repeated(&mut text, self.closing, count)?;
-        text.extend_from_slice(self.back.as_bytes())?;
-        Ok(text)
-    }
-}
 
 fn end_of(alloc: Global, rule: Rule, round: usize, text: &[u8]) -> Result<Option<End>, Memory> {
     if text.len() >= 1 << 32 {
@@ -259,9 +223,9 @@ fn end_of(alloc: Global, rule: Rule, round: usize, text: &[u8]) -> Result<Option
 }
 
 fn ends_so(alloc: Global, row: &Nested) -> Result<bool, Memory> {
-    let (nest, count, round, end) = *row;
+    let (rule, nest, count, round, end) = *row;
     let text = nest.text(alloc, count)?;
-    Ok(end_of(alloc, nest.rule, round, text.as_slice())? == Some(end))
+    Ok(end_of(alloc, rule, round, text.as_slice())? == Some(end))
 }
 
 // The number of the first row that is wrong.

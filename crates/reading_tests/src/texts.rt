@@ -1,43 +1,8 @@
-// Texts of parts of the grammar, and files: what they are read as, or their fault.
-use ada_tree::{Kind, Node, Part, Rule};
-use base_kit::{Code, Memory, Place, Stop};
+// Files: what they are read as, or their fault.
+use crate::ends::{End, file_end};
+use ada_tree::Kind;
+use base_kit::{Code, Memory};
 use std::alloc::Global;
-use text_read::{has_texts, read_file, read_fragment};
-
-// What becomes of a text: a node of a kind, a fault in a line, or too many nodes.
-#[derive(Clone, Copy, PartialEq, Eq)]
-enum End {
-    Node(Kind),
-    Fault(Code, u32),
-    TooMany(u64),
-}
-
-fn end_of(read: Result<Node, Stop>) -> Result<End, Memory> {
-    match read {
-        Ok(node) => Ok(End::Node(node.kind)),
-        Err(Stop::Memory) => Err(Memory),
-        Err(Stop::Fault(fault)) => match fault.place {
-            Place::Line(_, line) => Ok(End::Fault(fault.code, line)),
-            Place::At(_) => Ok(End::TooMany(fault.count)),
-        },
-    }
-}
-
-fn file_end(alloc: Global, bytes: &[u8]) -> Result<End, Memory> {
-    if bytes.len() >= 1 << 32 {
-        return Err(Memory);
-    }
-    end_of(read_file(alloc, bytes))
-}
-
-fn fragment_end(alloc: Global, part: Part, bytes: &[u8]) -> Result<End, Memory> {
-    if !has_texts(part) || bytes.len() >= 1 << 32 {
-        return Err(Memory);
-    }
-    end_of(read_fragment(alloc, part, bytes))
-}
-
-// ---- files
 
 const FILES: &[(&str, End)] = &[
     ("", End::Node(Kind::File)),
@@ -46,27 +11,94 @@ const FILES: &[(&str, End)] = &[
         "procedure P is\nbegin\n   null;\nend P;\n",
         End::Node(Kind::File),
     ),
-    // The end of the text is a token in its last line.
-    ("procedure P is", End::Fault(Code::F03, 1)),
-    ("procedure P is\nbegin\n", End::Fault(Code::F03, 2)),
-    ("procedure P is\nbegin\n\n\n", End::Fault(Code::F03, 4)),
-    // Words and marks of Ada 83 outside the profile.
+    // Each with its fault: a form outside the profile, the end, and a byte that isn't text.
     (
         "procedure P is begin pragma X; end P;",
         End::Fault(Code::F23, 1),
+    ),
+    ("procedure P is", End::Fault(Code::F03, 1)),
+    ("procedure P is\n\u{1}\n", End::Fault(Code::F01, 2)),
+    // The same of the form that is proved, with one body or another.
+    (
+        "procedure SET (X, Y : in out INTEGER)\n--| where in Y = 3; out X = 3; out Y = in Y; end where;\nis begin",
+        End::Fault(Code::F03, 3),
+    ),
+    (
+        "procedure SET (X, Y : in out INTEGER)\n--| where in Y = 3; out X = 3; out Y = in Y; end where;\nis begin X := Y + 1; end SET;\n",
+        End::Node(Kind::File),
+    ),
+    (
+        "procedure SET (X, Y : in out INTEGER)\n--| where in Y = 3; out X = 3; out Y = in Y; end where;\nis begin X := Z; end SET;\n",
+        End::Node(Kind::File),
+    ),
+    // A token is at fault in its own line, not behind it, nor in that of the token before.
+    (
+        "procedure P is\nbegin\n   X := 1\n   Y := 2;\nend P;\n",
+        End::Fault(Code::F03, 4),
+    ),
+    (
+        "procedure P is\nbegin\n   X :=\n;\n   Y\n:= 2;\nend P;\n",
+        End::Fault(Code::F03, 4),
+    ),
+    (
+        "procedure P is\nbegin\n   X := 1 -- no more\n\n   & 2;\nend P;\n",
+        End::Fault(Code::F23, 5),
     ),
     (
         "procedure P is\nbegin\n   A ** B;\n",
         End::Fault(Code::F23, 3),
     ),
-    ("generic\n", End::Fault(Code::F23, 1)),
+    (
+        "procedure P\n--| where in A and\n--| ;\n--| end where;\nis begin null; end P;\n",
+        End::Fault(Code::F03, 3),
+    ),
+    // The end of the text is a token in its last line; a line end that ends it begins no further one.
+    ("procedure P is\nbegin\n", End::Fault(Code::F03, 2)),
+    ("procedure P is\nbegin\n\n\n", End::Fault(Code::F03, 4)),
+    ("procedure P is\n   ", End::Fault(Code::F03, 2)),
+    ("procedure P is\n-- no more\n", End::Fault(Code::F03, 2)),
+    ("procedure P\n--| where\n--|", End::Fault(Code::F03, 3)),
+    // CR and LF together end one line; each ends one alone, and so do VT and FF.
+    ("procedure P is\r\nbegin\r\n", End::Fault(Code::F03, 2)),
+    ("procedure P is\r\r\n", End::Fault(Code::F03, 2)),
+    (
+        "procedure P is\rbegin\u{b}null;\u{c}end",
+        End::Fault(Code::F03, 4),
+    ),
     // Bytes and tokens come before all else.
     ("generic\n\u{1}", End::Fault(Code::F01, 2)),
     ("generic\nA_ : T;\n", End::Fault(Code::F02, 2)),
+    ("end\n\nA_", End::Fault(Code::F02, 3)),
     // A closing name is the one that is closed.
     (
-        "procedure P is\nbegin\n   null;\nend Q;\n",
-        End::Fault(Code::F03, 4),
+        "procedure P is\nbegin\n   null;\nend\n\nQ;\n",
+        End::Fault(Code::F03, 6),
+    ),
+    (
+        "package P is\n   procedure Q;\nend Q;\n",
+        End::Fault(Code::F03, 3),
+    ),
+    (
+        "package body P is\n   procedure Q is begin null; end P;\nend P;\n",
+        End::Fault(Code::F03, 2),
+    ),
+    ("procedure P is begin null; end p;", End::Node(Kind::File)),
+    // Annotations stand behind their mark, and nothing else does.
+    (
+        "procedure P\nwhere in A; end where;\nis begin null; end P;\n",
+        End::Fault(Code::F03, 2),
+    ),
+    (
+        "procedure P is\nbegin\n   assert A;\nend P;\n",
+        End::Fault(Code::F03, 3),
+    ),
+    (
+        "procedure P is\nbegin\n--| null;\nend P;\n",
+        End::Fault(Code::F03, 3),
+    ),
+    (
+        "--| trait L is\n--| end trait\n;\n",
+        End::Fault(Code::F03, 3),
     ),
     // Words of annotations are names outside them.
     (
@@ -81,7 +113,7 @@ const FILES: &[(&str, End)] = &[
 
 fn is_file_right(alloc: Global, row: &(&str, End)) -> Result<bool, Memory> {
     let (text, end) = *row;
-    Ok(file_end(alloc, text.as_bytes())? == end)
+    Ok(file_end(alloc, text.as_bytes())? == Some(end))
 }
 
 // The number of the first row that is wrong.
@@ -96,199 +128,125 @@ fn files_are_read_or_have_their_fault(rt: HostRuntime) {
     assert_eq!(rt; first_wrong_file(rt.alloc()), None);
 }
 
-// ---- limits
+// ---- words and marks that no item begins with
 
-// How a file begins, what is repeated, and how it ends; where it is repeated as often, and once more.
-struct Limit {
-    front: &'static str,
-    piece: &'static str,
-    count: usize,
-    back: &'static str,
-    end: End,
-}
-
-const LIMITS: &[Limit] = &[
-    Limit {
-        front: "procedure P is begin X := A",
-        piece: "B",
-        count: 119,
-        back: "; end P;",
-        end: End::Node(Kind::File),
-    },
-    Limit {
-        front: "procedure P is begin X := A",
-        piece: "B",
-        count: 120,
-        back: "; end P;",
-        end: End::Fault(Code::F02, 1),
-    },
-    Limit {
-        front: "procedure P is begin X := ",
-        piece: "7",
-        count: 18,
-        back: "; end P;",
-        end: End::Node(Kind::File),
-    },
-    Limit {
-        front: "procedure P is begin X := ",
-        piece: "7",
-        count: 19,
-        back: "; end P;",
-        end: End::Fault(Code::F02, 1),
-    },
-    // A file with a procedure of one statement has 12 nodes.
-    Limit {
-        front: "procedure P is begin ",
-        piece: "null;",
-        count: 99_989,
-        back: " end P;",
-        end: End::Node(Kind::File),
-    },
-    Limit {
-        front: "procedure P is begin ",
-        piece: "null;",
-        count: 99_990,
-        back: " end P;",
-        end: End::TooMany(100_001),
-    },
-    // A fault further on comes before the number of nodes.
-    Limit {
-        front: "procedure P is begin ",
-        piece: "null;",
-        count: 200_000,
-        back: " end Q;",
-        end: End::Fault(Code::F03, 1),
-    },
+// Forms of Ada 83 outside the profile begin with these.
+const UNSUPPORTED: &[&str] = &[
+    "abort",
+    "accept",
+    "access",
+    "at",
+    "delay",
+    "delta",
+    "digits",
+    "do",
+    "entry",
+    "generic",
+    "goto",
+    "limited",
+    "new",
+    "pragma",
+    "renames",
+    "select",
+    "separate",
+    "task",
+    "terminate",
+    "**",
+    "&",
+    "<<",
+    ">>",
+    "<>",
+    "PRAGMA",
 ];
 
-fn text_of(alloc: Global, row: &Limit) -> Result<Vec<u8>, Memory> {
-    let mut text = Vec::from_slice(alloc, row.front.as_bytes())?;
-    for _ in 0..row.count {
-        text.extend_from_slice(row.piece.as_bytes())?;
-    }
-    text.extend_from_slice(row.back.as_bytes())?;
-    Ok(text)
+// The other reserved words and marks; behind a word that begins an item the end is wrong.
+const OTHERS: &[&str] = &[
+    "abs",
+    "all",
+    "and",
+    "array",
+    "begin",
+    "body",
+    "case",
+    "constant",
+    "declare",
+    "else",
+    "elsif",
+    "end",
+    "exception",
+    "exit",
+    "for",
+    "function",
+    "if",
+    "in",
+    "is",
+    "loop",
+    "mod",
+    "not",
+    "null",
+    "of",
+    "or",
+    "others",
+    "out",
+    "package",
+    "private",
+    "procedure",
+    "raise",
+    "range",
+    "record",
+    "rem",
+    "return",
+    "reverse",
+    "subtype",
+    "then",
+    "type",
+    "use",
+    "when",
+    "while",
+    "with",
+    "xor",
+    "'",
+    "(",
+    ")",
+    "*",
+    "+",
+    ",",
+    "-",
+    ".",
+    "/",
+    ":",
+    ";",
+    "<",
+    "=",
+    ">",
+    "|",
+    "[",
+    "]",
+    "@",
+    "=>",
+    "..",
+    ":=",
+    "/=",
+    "<=",
+    ">=",
+    "->",
+    "==",
+];
+
+// The fault of a file whose second line is this.
+fn has_fault(alloc: Global, line: &str, code: Code) -> Result<bool, Memory> {
+    let text = format!(in alloc; "procedure P;\n{line}")?;
+    Ok(file_end(alloc, text.as_bytes())? == Some(End::Fault(code, 2)))
 }
 
-fn is_limit_right(alloc: Global, row: &Limit) -> Result<bool, Memory> {
-    let text = text_of(alloc, row)?;
-    Ok(file_end(alloc, text.as_slice())? == row.end)
-}
-
-fn first_wrong_limit(alloc: Global) -> Option<usize> {
-    LIMITS
+fn first_wrong(alloc: Global, lines: &[&str], code: Code) -> Option<usize> {
+    lines
         .iter()
-        .position(|row| is_limit_right(alloc, row) != Ok(true))
+        .position(|line| has_fault(alloc, line, code) != Ok(true))
 }
 
 #[test]
-fn files_are_read_up_to_the_limits(rt: HostRuntime) {
-    assert_eq!(rt; first_wrong_limit(rt.alloc()), None);
-}
-
-// ---- parts
-
-// A rule, whether the part stands in annotations, a text, and what becomes of it.
-type Fragment = (Rule, bool, &'static str, End);
-
-const WRONG: End = End::Fault(Code::F03, 1);
-
-const FRAGMENTS: &[Fragment] = &[
-    (Rule::AnyItem, false, "procedure P;", End::Node(Kind::Unit)),
-    (Rule::AnyItem, false, "procedure P; procedure Q;", WRONG),
-    (Rule::AnyClause, false, "with A, B;", End::Node(Kind::With)),
-    (Rule::AnyClause, false, "with A B;", WRONG),
-    (
-        Rule::AnyLib,
-        false,
-        "package P is end;",
-        End::Node(Kind::Pack),
-    ),
-    (Rule::AnyLib, false, "use A;", WRONG),
-    (
-        Rule::AnySpec,
-        false,
-        "function F return T",
-        End::Node(Kind::Func),
-    ),
-    (Rule::AnySpec, false, "function F", WRONG),
-    (Rule::AnyMark, false, "A.B", End::Node(Kind::Select)),
-    (Rule::AnyMark, false, "A(1)", WRONG),
-    (Rule::AnyDecl, false, "A : T;", End::Node(Kind::Obj)),
-    (Rule::AnyDecl, false, "A : ;", WRONG),
-    (Rule::AnyTdef, false, "(A, B)", End::Node(Kind::Enum)),
-    (Rule::AnyTdef, false, "()", WRONG),
-    (Rule::AnyDis, false, "1 .. 3", End::Node(Kind::Span)),
-    (Rule::AnyDis, false, "1 .. 3 .. 4", WRONG),
-    (Rule::AnyChoices, false, "A | others", WRONG),
-    (Rule::AnyChoices, false, "others", End::Node(Kind::Others)),
-    (Rule::AnyChoice, false, "1 .. 2", End::Node(Kind::Span)),
-    (Rule::AnyChoice, false, "1 ..", WRONG),
-    (Rule::AnyStmt, false, "A := 1;", End::Node(Kind::Assign)),
-    (Rule::AnyStmt, false, "A := 1", WRONG),
-    (Rule::AnyHead, false, "while A", End::Node(Kind::While)),
-    (Rule::AnyHead, false, "while", WRONG),
-    (
-        Rule::AnyExpr,
-        false,
-        "A and then B",
-        End::Node(Kind::Binary),
-    ),
-    (Rule::AnyExpr, false, "A and B or C", WRONG),
-    (Rule::AnyExpr, false, "A ** B", End::Fault(Code::F23, 1)),
-    (Rule::AnyPrimary, false, "A(1).B", End::Node(Kind::Select)),
-    (Rule::AnyPrimary, false, "A + B", WRONG),
-    (Rule::AnyArg, false, "A => 1", End::Node(Kind::Assoc)),
-    (Rule::AnyArg, false, "A =>", WRONG),
-    (Rule::AnyWclause, false, "in A = 1;", End::Node(Kind::In)),
-    (Rule::AnyWclause, false, "in A := 1;", WRONG),
-    (Rule::AnyTerm, false, "A implies B", End::Node(Kind::Binary)),
-    (
-        Rule::AnyTerm,
-        false,
-        "for all I in 0 .. N : A(I) = 0",
-        End::Node(Kind::All),
-    ),
-    (
-        Rule::AnyTerm,
-        false,
-        "A and\nthen B",
-        End::Fault(Code::F03, 2),
-    ),
-    (Rule::AnyTerm, false, "in A and ;", WRONG),
-    // Where a part stands on both sides, its side tells which words there are.
-    (Rule::AnyPrimary, false, "STORE", End::Node(Kind::Name)),
-    (Rule::AnyPrimary, true, "STORE", WRONG),
-    (Rule::Of(Kind::Name), false, "IFF", End::Node(Kind::Name)),
-    (Rule::Of(Kind::Name), true, "IFF", WRONG),
-    (
-        Rule::Of(Kind::Assert),
-        false,
-        "--| assert A;",
-        End::Node(Kind::Assert),
-    ),
-    (Rule::Of(Kind::Assert), false, "--| assert A", WRONG),
-    (
-        Rule::Of(Kind::Handler),
-        false,
-        "-- why\nwhen others => null;",
-        End::Node(Kind::Handler),
-    ),
-];
-
-fn is_fragment_right(alloc: Global, row: &Fragment) -> Result<bool, Memory> {
-    let (rule, note, text, end) = *row;
-    let part = Part { rule, note };
-    Ok(fragment_end(alloc, part, text.as_bytes())? == end)
-}
-
-fn first_wrong_fragment(alloc: Global) -> Option<usize> {
-    FRAGMENTS
-        .iter()
-        .position(|row| is_fragment_right(alloc, row) != Ok(true))
-}
-
-#[test]
-fn texts_of_parts_are_read_or_have_their_fault(rt: HostRuntime) {
-    assert_eq!(rt; first_wrong_fragment(rt.alloc()), None);
+fn forms_outside_the_profile_are_told_from_other_faults(rt: HostRuntime) {
+    assert_eq!(rt; first_wrong(rt.alloc(), UNSUPPORTED, Code::F23), None);
+    assert_eq!(rt; first_wrong(rt.alloc(), OTHERS, Code::F03), None);
 }
