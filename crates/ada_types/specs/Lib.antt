@@ -1,0 +1,4 @@
+pub mod Declarations
+pub mod Definitions
+pub mod Sizes
+pub mod SortLists

@@ -1,0 +1,328 @@
+// Type definitions: what each defines, or its first fault.
+ghost use Rattle.std.specs.Prelude.{◌≡◌, ◌+◌, ◌∷◌, [], ◌++◌, map, length, IfOk};
+ghost use Rattle.ada_tree.specs.Nodes.{kind_of, text_of, kids_of};
+ghost use Rattle.ada_tree.specs.Sights.{parts_of};
+ghost use Rattle.static_values.specs.Judging.{asks, Gives};
+ghost use Rattle.static_values.specs.Entities as spec;
+ghost use Rattle.ada_types.specs.Definitions as def;
+
+use ada_names::kid;
+use ada_tree::{Kind, Lookup, Node};
+use base_kit::{Code, Copied, Listed, Memory, Names, Path, Stop};
+use static_values::{
+    BaseType, Entities, Index, Meaning, Named, Shape, Subtype, Use, ask, expression, mark, unknown,
+    value_of,
+};
+use std::alloc::Global;
+
+/// What two bounds mean.
+#[derive(Clone, Copy)]
+pub struct Limits {
+    pub low: Meaning,
+    pub high: Meaning,
+}
+
+/// What a type is made of, its range where it has one, and the names of its components.
+#[derive(Drop)]
+pub struct Defined {
+    pub shape: Shape,
+    pub low: i64,
+    pub high: i64,
+    pub parts: Names,
+}
+
+impl Limits {
+    fn is_null(&self) -> bool
+        ensures { result ≡ def.is_null self.now }
+    {
+        value_of(&self.low) > value_of(&self.high)
+    }
+
+    // The type of two bounds that fit each other.
+    fn index(&self) -> Index
+        ensures { result ≡ def.span_index self.now }
+    {
+        let joined = self.low.base.joined(self.high.base);
+        let base = if joined.is_universal() {
+            BaseType::Integer(0)
+        } else {
+            joined
+        };
+        Index {
+            base,
+            low: value_of(&self.low),
+            high: value_of(&self.high),
+        }
+    }
+}
+
+// The indexes that a mark stands for.
+fn mark_index(named: Named) -> Index
+    ensures { result ≡ def.mark_index named }
+{
+    let subtype = named.subtype();
+    Index {
+        base: named.base_type(),
+        low: subtype.low,
+        high: subtype.high,
+    }
+}
+
+/// Two bounds, which must be static.
+#[tactic(auto, using(static_values::proofs::Firsts::first_stays, static_values::proofs::Firsts::first_after))]
+pub fn bounds<N: Lookup>(
+    alloc: Global,
+    names: &N,
+    entities: &Entities,
+    at: &Path,
+    node: &Node,
+) -> Result<Limits, Stop>
+    ensures { Gives (def.bounds_faults (spec.world (N.sight names.now) entities.now) at.now (kids_of node.now)) (def.bounds_of (spec.world (N.sight names.now) entities.now) at.now (kids_of node.now)) result }
+{
+    match node.kids.as_slice() {
+        [low, high] => {
+            let below = kid(alloc, at, 0)?;
+            let low = expression(alloc, names, entities, &below, Use::Static, low)?;
+            let beside = kid(alloc, at, 1)?;
+            let high = expression(alloc, names, entities, &beside, Use::Static, high)?;
+            Ok(Limits { low, high })
+        }
+        _ => Ok(Limits {
+            low: unknown(),
+            high: unknown(),
+        }),
+    }
+}
+
+// The range of an integer type.
+#[tactic(auto, using(static_values::proofs::Firsts::first_stays, static_values::proofs::Firsts::first_after))]
+fn integers<N: Lookup>(
+    alloc: Global,
+    names: &N,
+    entities: &Entities,
+    at: &Path,
+    node: &Node,
+) -> Result<Defined, Stop>
+    ensures { Gives (def.integer_faults (spec.world (N.sight names.now) entities.now) at.now (kids_of node.now)) (def.integers (def.bounds_of (spec.world (N.sight names.now) entities.now) at.now (kids_of node.now))) result }
+{
+    let limits = bounds(alloc, names, entities, at, node)?;
+    let fails = !(limits.low.base.is_integer() && limits.high.base.is_integer());
+    ask(
+        alloc,
+        at,
+        &[(Code::F09, fails), (Code::F11, limits.is_null())],
+    )?;
+    Ok(Defined {
+        shape: Shape::Integer,
+        low: value_of(&limits.low),
+        high: value_of(&limits.high),
+        parts: Names::new(alloc),
+    })
+}
+
+#[tactic(auto, using(static_values::proofs::Firsts::first_stays, static_values::proofs::Firsts::first_after))]
+fn span<N: Lookup>(
+    alloc: Global,
+    names: &N,
+    entities: &Entities,
+    at: &Path,
+    node: &Node,
+) -> Result<Index, Stop>
+    ensures { Gives (def.span_faults (spec.world (N.sight names.now) entities.now) at.now (kids_of node.now)) (def.span_index (def.bounds_of (spec.world (N.sight names.now) entities.now) at.now (kids_of node.now))) result }
+{
+    let limits = bounds(alloc, names, entities, at, node)?;
+    let fails = !limits.low.base.agrees(limits.high.base);
+    ask(
+        alloc,
+        at,
+        &[(Code::F09, fails), (Code::F11, limits.is_null())],
+    )?;
+    Ok(limits.index())
+}
+
+#[tactic(auto, using(static_values::proofs::Firsts::first_stays, static_values::proofs::Firsts::first_after))]
+fn range_of<N: Lookup>(
+    alloc: Global,
+    names: &N,
+    entities: &Entities,
+    at: &Path,
+    node: &Node,
+) -> Result<Index, Stop>
+    ensures { Gives (def.range_of_faults (spec.world (N.sight names.now) entities.now) at.now (kids_of node.now)) (def.mark_index Named.Part) result }
+{
+    if let [prefix] = node.kids.as_slice() {
+        mark(alloc, names, entities, &kid(alloc, at, 0)?, prefix)?;
+    }
+    ask(alloc, at, &[(Code::F08, true)])?;
+    Ok(mark_index(Named::Part))
+}
+
+// The index of an array.
+fn index<N: Lookup>(
+    alloc: Global,
+    names: &N,
+    entities: &Entities,
+    at: &Path,
+    node: &Node,
+) -> Result<Index, Stop>
+    ensures { Gives (def.index_faults (spec.world (N.sight names.now) entities.now) at.now node.now) (def.index_in (spec.world (N.sight names.now) entities.now) at.now node.now) result }
+{
+    match node.kind {
+        Kind::Span => span(alloc, names, entities, at, node),
+        Kind::RangeOf => range_of(alloc, names, entities, at, node),
+        _ => Ok(mark_index(mark(alloc, names, entities, at, node)?)),
+    }
+}
+
+fn nothing(alloc: Global) -> Defined
+    ensures { result ≡ def.nothing_defined }
+{
+    Defined {
+        shape: Shape::Truth,
+        low: 0,
+        high: 0,
+        parts: Names::new(alloc),
+    }
+}
+
+#[tactic(auto, using(static_values::proofs::Firsts::first_stays, static_values::proofs::Firsts::first_after))]
+fn array<N: Lookup>(
+    alloc: Global,
+    names: &N,
+    entities: &Entities,
+    at: &Path,
+    node: &Node,
+) -> Result<Defined, Stop>
+    ensures { Gives (def.array_faults (spec.world (N.sight names.now) entities.now) at.now (kids_of node.now)) (def.array_in (spec.world (N.sight names.now) entities.now) at.now (kids_of node.now)) result }
+{
+    let [indexes, element] = node.kids.as_slice() else {
+        return Ok(nothing(alloc));
+    };
+    let index = index(alloc, names, entities, &kid(alloc, at, 0)?, indexes)?;
+    let element = mark(alloc, names, entities, &kid(alloc, at, 1)?, element)?;
+    ask(alloc, at, &[(Code::F09, !index.base.is_discrete())])?;
+    Ok(Defined {
+        shape: Shape::Array(index, element.subtype()),
+        ..nothing(alloc)
+    })
+}
+
+/// The components so far, and their names.
+#[derive(Drop)]
+pub struct ComponentList {
+    pub subtypes: Listed<Subtype>,
+    pub names: Names,
+}
+
+// Adds a component of this subtype for each name.
+fn add_components(
+    alloc: Global,
+    subtype: Subtype,
+    ids: &Node,
+    mut components: ComponentList,
+) -> Result<ComponentList, Memory>
+    ensures { IfOk result (λ c. c ≡ def.with_components components (map (λ id. subtype) (kids_of ids.now)) (map text_of (kids_of ids.now))) }
+{
+    for id in ids.kids.as_slice() {
+        components.subtypes.push(subtype)?;
+        components.names.push(id.text.copy(alloc)?)?;
+    }
+    Ok(components)
+}
+
+fn component<N: Lookup>(
+    alloc: Global,
+    names: &N,
+    entities: &Entities,
+    at: &Path,
+    node: &Node,
+    components: ComponentList,
+) -> Result<ComponentList, Stop>
+    ensures { Gives (def.component_faults (spec.world (N.sight names.now) entities.now) at.now (kids_of node.now)) (def.with_components components (def.components_in (spec.world (N.sight names.now) entities.now) at.now (kids_of node.now)) (def.names_in (kids_of node.now))) result }
+{
+    let [ids, of] = node.kids.as_slice() else {
+        return Ok(components);
+    };
+    let named = mark(alloc, names, entities, &kid(alloc, at, 1)?, of)?;
+    Ok(add_components(alloc, named.subtype(), ids, components)?)
+}
+
+// The components of a record.
+#[tactic(auto, using(static_values::proofs::Firsts::first_stays, static_values::proofs::Firsts::first_after))]
+fn components<N: Lookup>(
+    alloc: Global,
+    names: &N,
+    entities: &Entities,
+    at: &Path,
+    node: &Node,
+) -> Result<ComponentList, Stop>
+    ensures { Gives (def.components_faults (spec.world (N.sight names.now) entities.now) at.now 0 (kids_of node.now)) (def.all_of (spec.world (N.sight names.now) entities.now) at.now (kids_of node.now)) result }
+{
+    let mut components = ComponentList {
+        subtypes: Listed::new(alloc),
+        names: Names::new(alloc),
+    };
+    for (number, member) in node.kids.as_slice().iter().enumerate() {
+        let below = kid(alloc, at, number)?;
+        components = component(alloc, names, entities, &below, member, components)?;
+    }
+    Ok(components)
+}
+
+#[tactic(auto, using(static_values::proofs::Firsts::first_stays, static_values::proofs::Firsts::first_after))]
+fn record<N: Lookup>(
+    alloc: Global,
+    names: &N,
+    entities: &Entities,
+    at: &Path,
+    node: &Node,
+) -> Result<Defined, Stop>
+    ensures { Gives (def.record_faults (spec.world (N.sight names.now) entities.now) at.now (kids_of node.now)) (def.record_in (spec.world (N.sight names.now) entities.now) at.now (kids_of node.now)) result }
+{
+    let [members] = node.kids.as_slice() else {
+        return Ok(nothing(alloc));
+    };
+    let made = components(alloc, names, entities, &kid(alloc, at, 0)?, members)?;
+    Ok(Defined {
+        shape: Shape::Record(made.subtypes),
+        low: 0,
+        high: 0,
+        parts: made.names,
+    })
+}
+
+fn enumeration(alloc: Global, node: &Node) -> Result<Defined, Memory>
+    ensures { IfOk result (λ d. d ≡ def.enumeration_in (kids_of node.now)) }
+{
+    let [ids] = node.kids.as_slice() else {
+        return Ok(nothing(alloc));
+    };
+    let Ok(count) = i64::try_from(ids.kids.as_slice().len()) else {
+        return Err(Memory);
+    };
+    Ok(Defined {
+        shape: Shape::Enumeration,
+        low: 0,
+        high: count - 1,
+        parts: Names::new(alloc),
+    })
+}
+
+/// What a type definition defines.
+pub fn definition<N: Lookup>(
+    alloc: Global,
+    names: &N,
+    entities: &Entities,
+    at: &Path,
+    node: &Node,
+) -> Result<Defined, Stop>
+    ensures { Gives (def.definition_faults (spec.world (N.sight names.now) entities.now) at.now node.now) (def.definition_in (spec.world (N.sight names.now) entities.now) at.now node.now) result }
+{
+    match node.kind {
+        Kind::Enum => Ok(enumeration(alloc, node)?),
+        Kind::Range => integers(alloc, names, entities, at, node),
+        Kind::Arr => array(alloc, names, entities, at, node),
+        Kind::Rec => record(alloc, names, entities, at, node),
+        _ => Ok(nothing(alloc)),
+    }
+}

@@ -1,0 +1,5 @@
+pub mod Firsts
+pub mod Numbers
+pub mod Ranges
+pub mod Seen
+pub mod Statics

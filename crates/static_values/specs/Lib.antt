@@ -1,0 +1,6 @@
+pub mod Entities
+pub mod Expressions
+pub mod Forms
+pub mod Judging
+pub mod Rules
+pub mod Syntax

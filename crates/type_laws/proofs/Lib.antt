@@ -1,0 +1,10 @@
+pub mod Added
+pub mod Bases
+pub mod Defining
+pub mod Fits
+pub mod Growing
+pub mod Lookups
+pub mod Lying
+pub mod Marked
+pub mod Meant
+pub mod Once

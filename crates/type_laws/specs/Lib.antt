@@ -1,0 +1,4 @@
+pub mod Adding
+pub mod Judged
+pub mod Ranges
+pub mod Typed
