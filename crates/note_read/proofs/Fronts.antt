@@ -32,7 +32,7 @@ got_next : {A : Type 0} (front xs : List A) (x : A) → slice_get (front ++ x �
 got_next [] xs x = refl
 got_next (y ∷ front) xs x = got_next front xs x
 
-got_within : {A : Type 0} (xs : List A) (n : ℕ) (x : A) → slice_get xs n ≡ Some x → n < length xs
+pub got_within : {A : Type 0} (xs : List A) (n : ℕ) (x : A) → slice_get xs n ≡ Some x → n < length xs
 got_within [] n x h = absurd cc
 got_within (y ∷ xs) zero x h = omega arith
 got_within (y ∷ xs) (suc n) x h = let more = got_within xs n x h in omega (arith, more)

@@ -1,4 +1,4 @@
-mod Fronts
+pub mod Fronts
 pub mod Lying
 mod Outcomes
 mod Runs

@@ -1,6 +1,5 @@
 -- The longest text of one part, and where reading one stops.
-use Rattle.std.proofs.Common.{arith, ◌≡◌, ℕ, zero, suc, ◌+◌, ◌-◌, ◌≤◌, ◌<◌, List, [], ◌∷◌, length, length-drop, take, drop, sym, ◌∙◌, ap, subst, true, Some}
-use Rattle.std.specs.Prelude.{slice_get}
+use Rattle.std.proofs.Common.{arith, ◌≡◌, ℕ, ◌+◌, ◌-◌, ◌≤◌, List, [], length, length-drop, take, drop, sym, ◌∙◌, ap, subst, true, Some}
 use Rattle.base_kit.specs.declared.fault.Code.TheVariants.{F04}
 use Rattle.base_kit.specs.declared.fault.Fault.{Fault as AFault}
 use Rattle.ada_tree.specs.declared.node.Node.{Node}
@@ -9,6 +8,7 @@ use Rattle.ada_tree.specs.Tokens.{Sign}
 use Rattle.lex_ada.specs.declared.token.Token.{Token}
 use Rattle.lex_ada.specs.Faults.{fault_in}
 use Rattle.lex_ada.specs.Meanings.{meanings}
+use Rattle.note_read.proofs.Fronts.{got_within}
 use Rattle.note_read.specs.Fronts.{IsEnd, HasNoEnd, IsLastEnd}
 use Rattle.note_read.specs.Signs.{read_by_table}
 use Rattle.reading_exact.specs.Whole.{GrammarReads, are_signs, whole_start}
@@ -80,11 +80,6 @@ only_one round part source tokens texts r state e =
     ap (λ (s : State). only_node s.values) same ∙ ap only_node (node_read round part source tokens texts r).only
 
 -- ---- the same from a place on
-
-got_within : {A : Type 0} (xs : List A) (n : ℕ) (x : A) → slice_get xs n ≡ Some x → n < length xs
-got_within [] n x h = absurd cc
-got_within (y ∷ xs) zero x h = omega arith
-got_within (y ∷ xs) (suc n) x h = let more = got_within xs n x h in omega (arith, more)
 
 -- it has no more tokens than there are
 pub few_tokens : (Within : List Sign → Node → Type 0) (source : List ℕ) (tokens rest : List Token) (from n : ℕ) (node : Node) → rest ≡ drop from tokens → from ≤ length tokens → IsLongest Within source rest 0 (node, n) → from + n ≤ length tokens
