@@ -1,2 +1,4 @@
 pub mod Indexes
 pub mod Grown
+pub mod Exceptions
+pub mod Marks

@@ -4,10 +4,18 @@ use Rattle.ada_tree.specs.declared.kind.Kind.{Kind}
 use Rattle.ada_tree.specs.declared.kind.Kind.TheVariants as kind
 use Rattle.ada_tree.specs.declared.node.Node.{Node, Node-F, fold-Node}
 use Rattle.ada_names.specs.declared.entry.Entry.{Entry}
-use Rattle.ada_names.specs.declared.entry.Around.{Around}
 use Rattle.ada_names.specs.Places.{◌▸◌}
 use Rattle.ada_names.specs.Entries.{entry}
 use Rattle.ada_names.specs.Predefined.{predefined}
+
+-- What is round a node: the innermost region and subprogram, the innermost declaration or clause by its kind and its node, and the region and the subprogram round the innermost subprogram.
+pub record Around : Type 0 where
+  pub region : List ℕ
+  pub within : List ℕ
+  pub kind : Kind
+  pub until : List ℕ
+  pub outer_region : List ℕ
+  pub outer_within : List ℕ
 
 -- a declaration, or a clause, at this node
 abbrev pub declaration_at : Kind → List ℕ → Around → Around
@@ -31,33 +39,43 @@ in_prefix kind.Global path a = declaration_at kind.Select path a
 in_prefix kind.RaiseC path a = declaration_at kind.Select path a
 in_prefix _ path a = a
 
--- What is round the kid of this number. `home` is the region of a package and its body; context clauses belong to their unit, the clauses of a `where` block to the block.
+-- The region of what stands in the kid of this number, where one begins at this node. `home` is the region of a package and its body.
+abbrev pub region_in : Kind → List ℕ → List ℕ → ℕ → List ℕ
+region_in kind.Pack home path number = home
+region_in kind.Body home path number = home
+region_in kind.Trait home path number = region_in_trait path number
+region_in _ home path number = path
+
+-- What is round the kid of this number. Context clauses belong to their unit, the clauses of a `where` block to the block.
+abbrev pub inside : Kind → List ℕ → List ℕ → ℕ → Around → Around
+inside kind.Unit region path number a = if nat_eq number 0 then record a { region = region } else a
+inside kind.With region path number a = declaration_at kind.With path a
+inside kind.Use region path number a = declaration_at kind.Use path a
+inside kind.Pack region path number a = record a { region = region }
+inside kind.Body region path number a = record a { region = region }
+inside kind.SubDecl region path number a = subprogram_at kind.SubDecl path a
+inside kind.SubBody region path number a = subprogram_at kind.SubBody path a
+inside kind.Block region path number a = record a { region = region }
+inside kind.Loop region path number a = record a { region = region }
+inside kind.Rec region path number a = record a { region = region }
+inside kind.Formal region path number a = declaration_at kind.Formal path a
+inside kind.Obj region path number a = declaration_at kind.Obj path a
+inside kind.Const region path number a = declaration_at kind.Const path a
+inside kind.Num region path number a = declaration_at kind.Num path a
+inside kind.Exc region path number a = declaration_at kind.Exc path a
+inside kind.Comp region path number a = declaration_at kind.Comp path a
+inside kind.Vars region path number a = declaration_at kind.Vars path a
+inside kind.TypeDecl region path number a = declaration_at kind.TypeDecl path a
+inside kind.Enum region path number a = record a { kind = kind.Enum }
+inside kind.Trait region path number a = record a { region = region }
+inside kind.Where region path number a = record a { region = region }
+inside kind.Global region path number a = declaration_at kind.Global path a
+inside kind.RaiseC region path number a = in_raise path number a
+inside kind.Select region path number a = in_prefix a.kind path a
+inside _ region path number a = a
+
 abbrev pub down : Kind → List ℕ → List ℕ → ℕ → Around → Around
-down kind.Unit home path number a = if nat_eq number 0 then record a { region = path } else a
-down kind.With home path number a = declaration_at kind.With path a
-down kind.Use home path number a = declaration_at kind.Use path a
-down kind.Pack home path number a = record a { region = home }
-down kind.Body home path number a = record a { region = home }
-down kind.SubDecl home path number a = subprogram_at kind.SubDecl path a
-down kind.SubBody home path number a = subprogram_at kind.SubBody path a
-down kind.Block home path number a = record a { region = path }
-down kind.Loop home path number a = record a { region = path }
-down kind.Rec home path number a = record a { region = path }
-down kind.Formal home path number a = declaration_at kind.Formal path a
-down kind.Obj home path number a = declaration_at kind.Obj path a
-down kind.Const home path number a = declaration_at kind.Const path a
-down kind.Num home path number a = declaration_at kind.Num path a
-down kind.Exc home path number a = declaration_at kind.Exc path a
-down kind.Comp home path number a = declaration_at kind.Comp path a
-down kind.Vars home path number a = declaration_at kind.Vars path a
-down kind.TypeDecl home path number a = declaration_at kind.TypeDecl path a
-down kind.Enum home path number a = record a { kind = kind.Enum }
-down kind.Trait home path number a = record a { region = region_in_trait path number }
-down kind.Where home path number a = record a { region = path }
-down kind.Global home path number a = declaration_at kind.Global path a
-down kind.RaiseC home path number a = in_raise path number a
-down kind.Select home path number a = in_prefix a.kind path a
-down _ home path number a = a
+down k home path number a = inside k (region_in k home path number) path number a
 
 -- What a node itself declares, binds or mentions: nothing; or a name, by the kind of its declaration or clause, its region, the node from whose end on it is visible, and the subprogram round it.
 pub data Saying : Type 0 where
@@ -85,9 +103,15 @@ clause_name k path a = mark_in k kind.Name path a
 abbrev pub alone : Kind → List ℕ → Saying
 alone k path = says k [] path []
 
--- a name that is bound inside this node, from the end of its kid of this number on
-abbrev pub bound : Kind → List ℕ → ℕ → Saying
-bound k path number = says k path (path ▸ number) []
+-- a name that is bound inside this node: a view's variable from the end of its type's name on, a quantified one from the end of the bounds
+abbrev pub bound_from : Kind → List ℕ → List ℕ
+bound_from kind.View path = path ▸ 0
+bound_from kind.All path = path ▸ 1
+bound_from kind.Exists path = path ▸ 1
+bound_from _ path = path
+
+abbrev pub bound : Kind → List ℕ → Saying
+bound k path = says k path (bound_from k path) []
 
 -- The names of an object, of a formal or of an enumeration are visible from the end of their declaration, a subprogram's from the end of its specification, a loop parameter's from the end of its range.
 abbrev pub saying : Kind → List ℕ → Around → Saying
@@ -114,9 +138,9 @@ saying kind.Invariant path a = alone kind.Invariant path
 saying kind.Assert path a = alone kind.Assert path
 saying kind.Eqn path a = alone kind.Eqn path
 saying kind.Old path a = alone kind.Old path
-saying kind.View path a = bound kind.View path 0
-saying kind.All path a = bound kind.All path 1
-saying kind.Exists path a = bound kind.Exists path 1
+saying kind.View path a = bound kind.View path
+saying kind.All path a = bound kind.All path
+saying kind.Exists path a = bound kind.Exists path
 saying _ path a = silent
 
 -- its entry, after those that stand before it

@@ -3,6 +3,7 @@ pub mod Predefined
 pub mod Tables
 pub mod Entries
 pub mod Collecting
+pub mod Mirrors
 pub mod Sees
 pub mod Clauses
 pub mod Repeats

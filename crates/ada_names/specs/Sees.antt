@@ -86,7 +86,7 @@ seen_from es place name zero = option_or (library_unit es place name) (predefine
 seen_from es place name (suc n) = option_or (in_region es place name (region_of es (take (suc n) place))) (seen_from es place name n)
 
 abbrev pub directly : List Entry → List ℕ → List ℕ → Option Entry
-directly es place name = if is_entry_of kind.With (entry_at es place) then earlier_unit es place name else seen_from es place name (length place)
+directly es place name = seen_from es place name (length place)
 
 -- ---- used packages
 
@@ -137,9 +137,10 @@ abbrev pub or_else : Option Entry → Found → Found
 or_else (Some e) found = one e
 or_else None found = found
 
--- A direct declaration hides what `use` shows.
+-- A direct declaration hides what `use` shows. A name in a `with` clause sees earlier library units alone.
 abbrev pub plainly : List Entry → List ℕ → List ℕ → Found
-plainly es place name = or_else (directly es place name) (by_use es place name)
+plainly es place name =
+    if is_entry_of kind.With (entry_at es place) then or_else (earlier_unit es place name) unseen else or_else (directly es place name) (by_use es place name)
 
 -- ---- terms of annotations
 

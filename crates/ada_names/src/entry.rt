@@ -56,18 +56,3 @@ pub struct Entry {
     /// The number of the declaration, shared by what completes it; None where it has none.
     pub number: Option<DeclId>,
 }
-
-/// What is round a node: the regions, the subprogram and the declaration that it stands in.
-#[derive(Drop)]
-pub struct Around {
-    /// The innermost region.
-    pub region: Path,
-    /// The innermost subprogram, and the empty path where there is none.
-    pub within: Path,
-    /// The kind of the innermost declaration or clause, and its node.
-    pub kind: Kind,
-    pub until: Path,
-    /// The region and the subprogram round the innermost subprogram.
-    pub outer_region: Path,
-    pub outer_within: Path,
-}

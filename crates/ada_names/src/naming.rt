@@ -28,13 +28,20 @@ fn has_number(id: DeclId, entry: &Entry) -> bool
 impl Table {
     /// The number of an exception among the exceptions, from 0: `CONSTRAINT_ERROR` has 0. None where the
     /// declaration of this number is no exception. It goes over all entries.
+    #[tactic(auto, using(crate::proofs::Exceptions::counted_from_zero))]
     pub fn exception_number(&self, id: DeclId) -> Option<usize>
         ensures { result ≡ exception_number self.now id }
     {
-        self.entries()
-            .iter()
-            .filter(|entry| entry.kind == Kind::Exc)
-            .position(|entry| has_number(id, entry))
+        let mut number = 0;
+        for entry in self.entries() {
+            if entry.kind == Kind::Exc {
+                if has_number(id, entry) {
+                    return Some(number);
+                }
+                number += 1;
+            }
+        }
+        None
     }
 
     /// The place of the first declaration of this number that stands in the document.

@@ -10,10 +10,9 @@ use Rattle.ada_tree.specs.declared.kind.Kind.{Kind}
 use Rattle.ada_tree.specs.declared.node.Node.{Node, Node-F}
 use Rattle.ada_tree.specs.Nodes.{node_of}
 use Rattle.ada_names.specs.declared.entry.Entry.{Entry}
-use Rattle.ada_names.specs.declared.entry.Around.{Around}
 use Rattle.ada_names.specs.Places.{◌▸◌, is_in}
 use Rattle.ada_names.specs.declared.entry.Space.TheVariants as space
-use Rattle.ada_names.specs.Collecting.{Within, of_kids, of_layer, entries_in, down, own, home_of, with_own, saying, Saying, silent, says, said}
+use Rattle.ada_names.specs.Collecting.{Around, Within, of_kids, of_layer, entries_in, down, own, home_of, with_own, saying, Saying, silent, says, said}
 use Rattle.ada_names.specs.Entries.{first_of, next_number, entry}
 use Rattle.name_laws.specs.Laws.{renamed, BeginsWith, IsRenamed, here, inside, IsAlone}
 use Rattle.name_laws.proofs.Renaming.{keeps, fixed_place}

@@ -8,9 +8,10 @@ use Rattle.ada_names.specs.declared.entry.Entry.{Entry}
 use Rattle.ada_names.specs.Predefined.{predefined}
 use Rattle.ada_names.specs.Collecting.{outermost, entries_of}
 use Rattle.ada_names.specs.Sees.{sight_of, found, sees}
-use Rattle.name_laws.specs.Laws.{renamed, Apart, ClausesApart, IsRenamed, IsAlone}
+use Rattle.name_laws.specs.Laws.{renamed, Apart, ClausesApart, IsRenamed, IsAlone, IsNew, IsUnused, PassBy}
 use Rattle.name_laws.proofs.Along.{along}
 use Rattle.name_laws.proofs.RenamingParts.{found_same}
+use Rattle.name_laws.proofs.Passing.{found_passed}
 
 module _ (number : ℕ) (rest new : List ℕ) where
   abbrev at : List ℕ
@@ -30,3 +31,8 @@ module _ (number : ℕ) (rest new : List ℕ) where
   sees_same doc other is alone parts place apart clauses =
       ap (λ (es : List Entry). sight_of (found es parts place)) (entries_renamed doc other is alone)
       ∙ ap sight_of (found_same at new (entries_of doc) clauses place parts apart)
+
+  pub sees_what_it_saw : (doc other : Node) → IsRenamed new at doc other → IsUnused at new (entries_of doc) → (parts : List (List ℕ)) (place : List ℕ) → AllByRecursion (IsNew new) parts → PassBy at (entries_of doc) place parts → sees other parts place ≡ sees doc parts place
+  sees_what_it_saw doc other is unused parts place fresh pass =
+      ap (λ (es : List Entry). sight_of (found es parts place)) (entries_renamed doc other is unused.alone)
+      ∙ ap sight_of (found_passed at new (entries_of doc) unused place parts fresh pass)

@@ -7,9 +7,8 @@ use Rattle.ada_tree.specs.declared.kind.Kind.{Kind}
 use Rattle.ada_tree.specs.declared.node.Node.{Node, Node-F, fold-roll-Node, ind-Node}
 use Rattle.ada_tree.specs.Nodes.{node_of}
 use Rattle.ada_names.specs.declared.entry.Entry.{Entry}
-use Rattle.ada_names.specs.declared.entry.Around.{Around}
 use Rattle.ada_names.specs.Places.{◌▸◌}
-use Rattle.ada_names.specs.Collecting.{Within, of_kids, of_layer, entries_in, down, own, home_of, with_own}
+use Rattle.ada_names.specs.Collecting.{Around, Within, of_kids, of_layer, entries_in, down, own, home_of, with_own}
 use Rattle.name_laws.specs.Laws.{IsFront, ends, goes_on, BeginsWith}
 
 -- ---- lists that begin with others

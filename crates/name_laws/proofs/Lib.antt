@@ -2,6 +2,7 @@ pub mod Fronts
 pub mod Hiding
 pub mod Renaming
 pub mod RenamingParts
+pub mod Passing
 pub mod Seeing
 pub mod Parts
 pub mod Retold

@@ -16,6 +16,27 @@ use Rattle.ada_names.specs.Sees.{only, is_visible, region_of, in_region, unit_of
 use Rattle.name_laws.specs.Laws.{renamed, Apart, IsApart, ClausesApart}
 use Rattle.name_laws.proofs.Seeing.{is_name, first_name}
 
+-- what each `use` clause has, those round a place have
+module _ (Q : Entry → Type 0) (es : List Entry) (clauses : AllByRecursion (λ u. is_space u.space space.Uses ≡ true → Q u) es) where
+  clauses_in : (r : List ℕ) → AllByRecursion Q (uses_in es r)
+  clauses_in r = go es clauses
+    where
+      go : (xs : List Entry) → AllByRecursion (λ u. is_space u.space space.Uses ≡ true → Q u) xs → AllByRecursion Q (uses_in xs r)
+      go [] h = tt
+      go (x ∷ xs) h = by (is_use_in r x) refl (go xs h.1)
+        where
+          by : (t : Bool) → is_use_in r x ≡ t → AllByRecursion Q (uses_in xs r) → AllByRecursion Q (cond t (x ∷ uses_in xs r) (uses_in xs r))
+          by true is further = (h.0 (and_parts (is_space x.space space.Uses) (bytes_eq x.region r) is).0, further)
+          by false is further = further
+
+  both_all : (xs ys : List Entry) → AllByRecursion Q xs → AllByRecursion Q ys → AllByRecursion Q (xs ++ ys)
+  both_all [] ys h g = g
+  both_all (x ∷ xs) ys h g = (h.0, both_all xs ys h.1 g)
+
+  pub clauses_from : (place : List ℕ) (n : ℕ) → AllByRecursion Q (uses_from es place n)
+  clauses_from place zero = clauses_in (declaration_unit es (unit_of place))
+  clauses_from place (suc n) = both_all (uses_in es (region_of es (take (suc n) place))) (uses_from es place n) (clauses_in (region_of es (take (suc n) place))) (clauses_from place n)
+
 module _ (at new : List ℕ) where
   abbrev f : Entry → Entry
   f e = renamed at new e
@@ -52,13 +73,13 @@ module _ (at new : List ℕ) where
       by None = refl
 
   module _ (es : List Entry) where
-    region_same : (q : List ℕ) → region_of (map f es) q ≡ region_of es q
+    pub region_same : (q : List ℕ) → region_of (map f es) q ≡ region_of es q
     region_same q = asked (λ (o : Option Entry). elim o [ Some e ↦ if is_kind e.kind kind.Body then e.origin else q | None ↦ q ]) (λ e. refl) q es
 
     pub entry_of_same : (k : Kind) (p : List ℕ) → is_entry_of k (entry_at (map f es) p) ≡ is_entry_of k (entry_at es p)
     entry_of_same k p = asked (is_entry_of k) (λ e. refl) p es
 
-    unit_same : (unit : List ℕ) → declaration_unit (map f es) unit ≡ declaration_unit es unit
+    pub unit_same : (unit : List ℕ) → declaration_unit (map f es) unit ≡ declaration_unit es unit
     unit_same unit =
         ap (λ (o : Option Entry). R (option_or o (entry_at (map f es) (unit ▸ 1 ▸ 0)))) (at_same (unit ▸ 1) es)
         ∙ ap (λ (o : Option Entry). R (option_or (option_map f (entry_at es (unit ▸ 1))) o)) (at_same (unit ▸ 1 ▸ 0) es)
@@ -72,7 +93,7 @@ module _ (at new : List ℕ) where
         by None (Some e) = keeps (λ (x : Entry). unit_of x.origin) (λ e. refl) e
         by None None = refl
 
-    term_same : (place : List ℕ) (n : ℕ) → in_term_from (map f es) place n ≡ in_term_from es place n
+    pub term_same : (place : List ℕ) (n : ℕ) → in_term_from (map f es) place n ≡ in_term_from es place n
     term_same place zero = refl
     term_same place (suc n) =
         ap (λ (o : Option Bool). or_further o (in_term_from (map f es) place n)) (asked (term_at place) (λ e. refl) (take (suc n) place) es)
@@ -139,55 +160,41 @@ module _ (at new : List ℕ) where
           ∙ ap (option_or (in_region es place name (region_of es (take (suc n) place)))) (seen_same n)
 
       directly_same : directly (map f es) place name ≡ directly es place name
-      directly_same =
-          ap (λ (t : Bool). if t then earlier_unit (map f es) place name else seen_from (map f es) place name (length place)) (entry_of_same es kind.With place)
-          ∙ ap (λ (o : Option Entry). if is_entry_of kind.With (entry_at es place) then only (λ e. has_ended e.from place) o else seen_from (map f es) place name (length place)) (first_same space.Names [])
-          ∙ ap (λ (o : Option Entry). if is_entry_of kind.With (entry_at es place) then earlier_unit es place name else o) (seen_same (length place))
+      directly_same = seen_same (length place)
+
+      earlier_same : earlier_unit (map f es) place name ≡ earlier_unit es place name
+      earlier_same = ap (only (λ e. has_ended e.from place)) (first_same space.Names [])
 
   -- ---- use clauses
+
+  -- the names of `use` clauses stand elsewhere
+  abbrev pub UsesElsewhere : List Entry → Type 0
+  UsesElsewhere es = AllByRecursion (λ u. is_space u.space space.Uses ≡ true → bytes_eq u.place at ≡ false) es
+
+  uses_same : (es : List Entry) → UsesElsewhere es → (r : List ℕ) → uses_in (map f es) r ≡ uses_in es r
+  uses_same [] h r = refl
+  uses_same (x ∷ xs) h r = ap (λ (t : Bool). cond t (f x ∷ uses_in (map f xs) r) (uses_in (map f xs) r)) (keeps (is_use_in r) (λ e. refl) x) ∙ by (is_use_in r x) refl (uses_same xs h.1 r)
+    where
+      by : (t : Bool) → is_use_in r x ≡ t → uses_in (map f xs) r ≡ uses_in xs r → cond t (f x ∷ uses_in (map f xs) r) (uses_in (map f xs) r) ≡ cond t (x ∷ uses_in xs r) (uses_in xs r)
+      by true is further = ap (λ (y : Entry). y ∷ uses_in (map f xs) r) (fixed_place x (h.0 (and_parts (is_space x.space space.Uses) (bytes_eq x.region r) is).0)) ∙ ap (λ (ys : List Entry). x ∷ ys) further
+      by false is further = further
+
+  pub uses_from_same : (es : List Entry) → UsesElsewhere es → (place : List ℕ) (n : ℕ) → uses_from (map f es) place n ≡ uses_from es place n
+  uses_from_same es h place zero = ap (uses_in (map f es)) (unit_same es (unit_of place)) ∙ uses_same es h (declaration_unit es (unit_of place))
+  uses_from_same es h place (suc n) =
+      ap (λ (q : List ℕ). uses_in (map f es) q ++ uses_from (map f es) place n) (region_same es (take (suc n) place))
+      ∙ ap (λ (us : List Entry). us ++ uses_from (map f es) place n) (uses_same es h (region_of es (take (suc n) place)))
+      ∙ ap (λ (us : List Entry). uses_in es (region_of es (take (suc n) place)) ++ us) (uses_from_same es h place n)
 
   module _ (es : List Entry) (clauses : ClausesApart at new es) where
     abbrev Q : Entry → Type 0
     Q u = (bytes_eq u.place at ≡ false) × Apart at new es u.name
 
-    uses_same : (r : List ℕ) → uses_in (map f es) r ≡ uses_in es r
-    uses_same r = go es clauses
-      where
-        go : (xs : List Entry) → AllByRecursion (λ u. is_space u.space space.Uses ≡ true → Q u) xs → uses_in (map f xs) r ≡ uses_in xs r
-        go [] h = refl
-        go (x ∷ xs) h = ap (λ (t : Bool). cond t (f x ∷ uses_in (map f xs) r) (uses_in (map f xs) r)) (keeps (is_use_in r) (λ e. refl) x) ∙ by (is_use_in r x) refl (go xs h.1)
-          where
-            by : (t : Bool) → is_use_in r x ≡ t → uses_in (map f xs) r ≡ uses_in xs r → cond t (f x ∷ uses_in (map f xs) r) (uses_in (map f xs) r) ≡ cond t (x ∷ uses_in xs r) (uses_in xs r)
-            by true is further = ap (λ (y : Entry). y ∷ uses_in (map f xs) r) (fixed_place x (h.0 (and_parts (is_space x.space space.Uses) (bytes_eq x.region r) is).0).0) ∙ ap (λ (ys : List Entry). x ∷ ys) further
-            by false is further = further
-
-    clauses_in : (r : List ℕ) → AllByRecursion Q (uses_in es r)
-    clauses_in r = go es clauses
-      where
-        go : (xs : List Entry) → AllByRecursion (λ u. is_space u.space space.Uses ≡ true → Q u) xs → AllByRecursion Q (uses_in xs r)
-        go [] h = tt
-        go (x ∷ xs) h = by (is_use_in r x) refl (go xs h.1)
-          where
-            by : (t : Bool) → is_use_in r x ≡ t → AllByRecursion Q (uses_in xs r) → AllByRecursion Q (cond t (x ∷ uses_in xs r) (uses_in xs r))
-            by true is further = (h.0 (and_parts (is_space x.space space.Uses) (bytes_eq x.region r) is).0, further)
-            by false is further = further
-
-    both_all : (xs ys : List Entry) → AllByRecursion Q xs → AllByRecursion Q ys → AllByRecursion Q (xs ++ ys)
-    both_all [] ys h g = g
-    both_all (x ∷ xs) ys h g = (h.0, both_all xs ys h.1 g)
+    elsewhere : (xs : List Entry) → AllByRecursion (λ u. is_space u.space space.Uses ≡ true → Q u) xs → UsesElsewhere xs
+    elsewhere [] h = tt
+    elsewhere (x ∷ xs) h = (λ is. (h.0 is).0, elsewhere xs h.1)
 
     module _ (place name : List ℕ) (apart : Apart at new es name) where
-      uses_from_same : (n : ℕ) → uses_from (map f es) place n ≡ uses_from es place n
-      uses_from_same zero = ap (uses_in (map f es)) (unit_same es (unit_of place)) ∙ uses_same (declaration_unit es (unit_of place))
-      uses_from_same (suc n) =
-          ap (λ (q : List ℕ). uses_in (map f es) q ++ uses_from (map f es) place n) (region_same es (take (suc n) place))
-          ∙ ap (λ (us : List Entry). us ++ uses_from (map f es) place n) (uses_same (region_of es (take (suc n) place)))
-          ∙ ap (λ (us : List Entry). uses_in es (region_of es (take (suc n) place)) ++ us) (uses_from_same n)
-
-      clauses_from : (n : ℕ) → AllByRecursion Q (uses_from es place n)
-      clauses_from zero = clauses_in (declaration_unit es (unit_of place))
-      clauses_from (suc n) = both_all (uses_in es (region_of es (take (suc n) place))) (uses_from es place n) (clauses_in (region_of es (take (suc n) place))) (clauses_from n)
-
       shown_by_same : (u : Entry) → Q u → shown_by (map f es) place name u ≡ shown_by es place name u
       shown_by_same u q = ap S (ap (only (λ e. is_kind e.kind kind.Pack)) (directly_same es u.name q.1 u.place)) ∙ by (used_package es u)
         where
@@ -203,10 +210,14 @@ module _ (at new : List ℕ) where
       all_same (c ∷ cs) h found = ap (λ (o : Option Entry). shown_by_all (map f es) place name (joined found o) cs) (shown_by_same c h.0) ∙ all_same cs h.1 (joined found (shown_by es place name c))
 
       use_same : by_use (map f es) place name ≡ by_use es place name
-      use_same = ap (shown_by_all (map f es) place name unseen) (uses_from_same (length place)) ∙ all_same (uses_from es place (length place)) (clauses_from (length place)) unseen
+      use_same = ap (shown_by_all (map f es) place name unseen) (uses_from_same es (elsewhere es clauses) place (length place)) ∙ all_same (uses_from es place (length place)) (clauses_from Q es clauses place (length place)) unseen
 
       plainly_same : plainly (map f es) place name ≡ plainly es place name
-      plainly_same = ap (λ (o : Option Entry). or_else o (by_use (map f es) place name)) (directly_same es name apart place) ∙ ap (or_else (directly es place name)) use_same
+      plainly_same =
+          ap (λ (t : Bool). if t then or_else (earlier_unit (map f es) place name) unseen else or_else (directly (map f es) place name) (by_use (map f es) place name)) (entry_of_same es kind.With place)
+          ∙ ap (λ (o : Option Entry). if is_entry_of kind.With (entry_at es place) then or_else o unseen else or_else (directly (map f es) place name) (by_use (map f es) place name)) (earlier_same es name apart place)
+          ∙ ap (λ (o : Option Entry). if is_entry_of kind.With (entry_at es place) then or_else (earlier_unit es place name) unseen else or_else o (by_use (map f es) place name)) (directly_same es name apart place)
+          ∙ ap (λ (g : Found). if is_entry_of kind.With (entry_at es place) then or_else (earlier_unit es place name) unseen else or_else (directly es place name) g) use_same
 
       pub named_same : named (map f es) place name ≡ named es place name
       named_same =

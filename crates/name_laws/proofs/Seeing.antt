@@ -78,13 +78,12 @@ module _ (es : List Entry) (place name : List ℕ) where
       by None is further same = further (omega arith) same
 
   directly_visible : (e : Entry) → directly es place name ≡ Some e → Visible es place name e
-  directly_visible e = by (is_entry_of kind.With (entry_at es place))
-    where
-      by : (t : Bool) → (if t then earlier_unit es place name else seen_from es place name (length place)) ≡ Some e → Visible es place name e
-      by true h =
-          let parts : (first_of es space.Names [] name ≡ Some e) × (has_ended e.from place ≡ true) = only_is _ (first_of es space.Names [] name) e h in
-          named_by_with parts.0 parts.1
-      by false h = seen_visible (length place) e (omega arith) h
+  directly_visible e h = seen_visible (length place) e (omega arith) h
+
+  earlier_visible : (e : Entry) → earlier_unit es place name ≡ Some e → Visible es place name e
+  earlier_visible e h =
+      let parts : (first_of es space.Names [] name ≡ Some e) × (has_ended e.from place ≡ true) = only_is _ (first_of es space.Names [] name) e h in
+      named_by_with parts.0 parts.1
 
   -- ---- use clauses
 
@@ -121,11 +120,19 @@ module _ (es : List Entry) (place name : List ℕ) where
       all_show clauses (joined found (shown_by es place name clause)) e (λ c has. within c (Contains-append_right (clause ∷ []) clauses c has)) (λ d. joined_shows clause d found (within clause (Contains-append_left (clause ∷ []) clauses clause (Contains-push [] clause))) before) h
 
   plainly_visible : (e : Entry) → plainly es place name ≡ one e → Visible es place name e
-  plainly_visible e = by (directly es place name) refl
+  plainly_visible e = by (is_entry_of kind.With (entry_at es place))
     where
-      by : (o : Option Entry) → directly es place name ≡ o → or_else o (by_use es place name) ≡ one e → Visible es place name e
-      by (Some x) is h = let equal : x ≡ e = cc in directly_visible e (is ∙ ap (λ (y : Entry). Some y) equal)
-      by None is h = all_show (uses_from es place (length place)) unseen e (λ c has. has) (λ d no. absurd cc) h
+      named_there : (o : Option Entry) → earlier_unit es place name ≡ o → or_else o unseen ≡ one e → Visible es place name e
+      named_there (Some x) is h = let equal : x ≡ e = cc in earlier_visible e (is ∙ ap (λ (y : Entry). Some y) equal)
+      named_there None is h = absurd cc
+
+      seen_there : (o : Option Entry) → directly es place name ≡ o → or_else o (by_use es place name) ≡ one e → Visible es place name e
+      seen_there (Some x) is h = let equal : x ≡ e = cc in directly_visible e (is ∙ ap (λ (y : Entry). Some y) equal)
+      seen_there None is h = all_show (uses_from es place (length place)) unseen e (λ c has. has) (λ d no. absurd cc) h
+
+      by : (t : Bool) → (if t then or_else (earlier_unit es place name) unseen else or_else (directly es place name) (by_use es place name)) ≡ one e → Visible es place name e
+      by true h = named_there (earlier_unit es place name) refl h
+      by false h = seen_there (directly es place name) refl h
 
   -- ---- terms
 

@@ -1,5 +1,5 @@
 -- What the laws speak of.
-use Rattle.std.specs.Prelude.{◌≡◌, ℕ, suc, ◌<◌, List, [], ◌∷◌, ◌++◌, take, length, true, false, ◌&&◌, bytes_eq, Some, Contains, if◌then◌else◌}
+use Rattle.std.specs.Prelude.{◌≡◌, ℕ, suc, ◌<◌, List, [], ◌∷◌, ◌++◌, take, length, true, false, ◌&&◌, bytes_eq, Option, Some, None, Contains, if◌then◌else◌}
 use Rattle.std.specs.List.{AllByRecursion}
 use Rattle.ada_tree.specs.declared.kind.Kind.{Kind}
 use Rattle.ada_tree.specs.declared.kind.Kind.TheVariants as kind
@@ -11,7 +11,7 @@ use Rattle.ada_names.specs.declared.entry.Entry.{Entry}
 use Rattle.ada_names.specs.declared.entry.Space.TheVariants as space
 use Rattle.ada_names.specs.Places.{◌▸◌, has_ended, is_in}
 use Rattle.ada_names.specs.Entries.{is_space, first_of}
-use Rattle.ada_names.specs.Sees.{is_visible, is_in_context, is_in_trait, region_of, used_package, uses_from}
+use Rattle.ada_names.specs.Sees.{is_visible, is_in_context, is_in_trait, region_of, used_package, shown_by, uses_from, Found, unseen, one, several, found, plainly, named, earlier_unit, directly}
 
 -- A package shows a declaration at a place: the first of the name in its region, which stands in its visible part and has ended.
 pub record Shows (es : List Entry) (place name : List ℕ) (pack e : Entry) : Type 0 where
@@ -88,3 +88,43 @@ pub data IsRenamed (new : List ℕ) : List ℕ → Node → Node → Type 0 wher
 pub record IsAlone (at new : List ℕ) (es : List Entry) : Type 0 where
   pub alone : (d e : Entry) → Contains es d → Contains es e → bytes_eq d.place at ≡ true → bytes_eq e.place at ≡ false → (bytes_eq d.region e.region && bytes_eq d.name e.name) ≡ false
   pub fresh : (e : Entry) → Contains es e → bytes_eq new e.name ≡ false
+
+-- ---- a declaration that nothing sees
+
+-- what is looked up isn't the entry at the path
+abbrev pub IsNot : List ℕ → Option Entry → Type 0
+IsNot at (Some e) = bytes_eq e.place at ≡ false
+IsNot at None = Unit {0}
+
+-- nor is what a name is found to be
+abbrev pub IsOther : List ℕ → Found → Type 0
+IsOther at (one e) = bytes_eq e.place at ≡ false
+IsOther at unseen = Unit {0}
+IsOther at several = Unit {0}
+
+-- A name at a place passes the entry at the path by: the name doesn't see it, nor would it if no operator came first; and where several used packages show the name, none shows the entry.
+pub record PassesBy (at : List ℕ) (es : List Entry) (place name : List ℕ) : Type 0 where
+  pub seen : IsOther at (named es place name)
+  pub meant : IsOther at (plainly es place name)
+  pub used : plainly es place name ≡ several → (clause : Entry) → Contains (uses_from es place (length place)) clause → IsNot at (shown_by es place name clause)
+
+-- What stands before a dot passes it by too, in a trait also as the name of an earlier package.
+pub record PrefixPassesBy (at : List ℕ) (es : List Entry) (place name : List ℕ) : Type 0 where
+  pub prefix : PassesBy at es place name
+  pub earlier : is_in_trait es place ≡ true → IsNot at (earlier_unit es place name)
+
+-- The parts of a mark don't see it.
+abbrev pub PassBy : List ℕ → List Entry → List ℕ → List (List ℕ) → Type 0
+PassBy at es place (name ∷ []) = PassesBy at es place name
+PassBy at es place (prefix ∷ name ∷ []) = PrefixPassesBy at es place prefix × IsOther at (found es (prefix ∷ name ∷ []) place)
+PassBy at es place _ = Unit {0}
+
+-- the name isn't the new one
+abbrev pub IsNew : List ℕ → List ℕ → Type 0
+IsNew new name = bytes_eq new name ≡ false
+
+-- What stands at the path is no name in a `with` or a `use` clause, it is alone, and no `use` clause sees it.
+pub record IsUnused (at new : List ℕ) (es : List Entry) : Type 0 where
+  pub alone : IsAlone at new es
+  pub no_mention : (e : Entry) → Contains es e → bytes_eq e.place at ≡ true → (is_space e.space space.Withs ≡ false) × (is_space e.space space.Uses ≡ false)
+  pub clauses : (u : Entry) → Contains es u → is_space u.space space.Uses ≡ true → IsNot at (directly es u.place u.name)

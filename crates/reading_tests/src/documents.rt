@@ -21,7 +21,7 @@ pub type Row = (usize, Kind, &'static str);
 //    end Q;
 // end P;
 // package S is N, M : constant := 1; end S;
-// with P, S; use S, P;
+// use S, P; with P, S;
 // procedure T (V : in out INTEGER) is begin V := M; end T;
 // --| trait L is introduces F : -> INT; V : -> INT;
 // --|    asserts for all X : INT F == 1; implies for all X : INT FACT : F = 1; end trait;
@@ -141,14 +141,14 @@ pub const UNITS: &[Row] = &[
     (4, Kind::None, ""),
     (2, Kind::Unit, ""),
     (3, Kind::List, ""),
-    (4, Kind::With, ""),
-    (5, Kind::List, ""),
-    (6, Kind::Name, "P"),
-    (6, Kind::Name, "S"),
     (4, Kind::Use, ""),
     (5, Kind::List, ""),
     (6, Kind::Name, "S"),
     (6, Kind::Name, "P"),
+    (4, Kind::With, ""),
+    (5, Kind::List, ""),
+    (6, Kind::Name, "P"),
+    (6, Kind::Name, "S"),
     (3, Kind::SubBody, "T"),
     (4, Kind::Proc, "T"),
     (5, Kind::Formals, ""),
@@ -305,6 +305,10 @@ pub const RENAMED: &[Row] = calls!("R", "R");
 // --| trait L is end trait;
 // procedure W;
 // package body W is end W;
+// procedure V (A : in INTEGER) is begin
+//    declare A : constant := 1; begin null; end;
+//    declare type A is range 0 .. 9; begin null; end;
+// end V;
 pub const REPEATS: &[Row] = &[
     (0, Kind::Doc, ""),
     (1, Kind::File, ""),
@@ -521,6 +525,41 @@ pub const REPEATS: &[Row] = &[
     (3, Kind::List, ""),
     (3, Kind::Body, "W"),
     (4, Kind::List, ""),
+    (2, Kind::Unit, ""),
+    (3, Kind::List, ""),
+    (3, Kind::SubBody, "V"),
+    (4, Kind::Proc, "V"),
+    (5, Kind::Formals, ""),
+    (6, Kind::List, ""),
+    (7, Kind::Formal, "in"),
+    (8, Kind::List, ""),
+    (9, Kind::Id, "A"),
+    (8, Kind::Name, "INTEGER"),
+    (4, Kind::None, ""),
+    (4, Kind::List, ""),
+    (4, Kind::Seq, ""),
+    (5, Kind::List, ""),
+    (6, Kind::Block, ""),
+    (7, Kind::List, ""),
+    (8, Kind::Num, ""),
+    (9, Kind::List, ""),
+    (10, Kind::Id, "A"),
+    (9, Kind::Int, "1"),
+    (7, Kind::Seq, ""),
+    (8, Kind::List, ""),
+    (9, Kind::Null, ""),
+    (8, Kind::None, ""),
+    (6, Kind::Block, ""),
+    (7, Kind::List, ""),
+    (8, Kind::TypeDecl, "A"),
+    (9, Kind::Range, ""),
+    (10, Kind::Int, "0"),
+    (10, Kind::Int, "9"),
+    (7, Kind::Seq, ""),
+    (8, Kind::List, ""),
+    (9, Kind::Null, ""),
+    (8, Kind::None, ""),
+    (5, Kind::None, ""),
 ];
 
 // package P is G : INTEGER := 0; H : INTEGER := 0; E : exception; end P;

@@ -47,10 +47,13 @@ const SEEN: &[Seen] = &[
     ("S", "N", &[0, 3, 1, 3, 0, 0, 1], Ok(27)),
     ("", "V", &[0, 3, 1, 3, 0, 0, 0], Ok(30)),
     ("", "T", &[0, 3, 1, 3, 0, 0, 0], Ok(29)),
-    // Context clauses.
-    ("", "P", &[0, 3, 0, 0, 0, 0], Ok(9)),
-    ("", "S", &[0, 3, 0, 1, 0, 0], Ok(26)),
-    ("", "T", &[0, 3, 0, 0, 0, 0], Err(Code::F05)),
+    // Context clauses: their order doesn't matter, and a `with` names earlier units alone.
+    ("", "S", &[0, 3, 0, 0, 0, 0], Ok(26)),
+    ("", "P", &[0, 3, 0, 1, 0, 0], Ok(9)),
+    ("", "T", &[0, 3, 0, 1, 0, 0], Err(Code::F05)),
+    ("", "M", &[0, 3, 0, 1, 0, 0], Err(Code::F05)),
+    ("", "N", &[0, 3, 0, 1, 0, 0], Err(Code::F05)),
+    ("", "TRUE", &[0, 3, 0, 1, 0, 0], Err(Code::F05)),
     ("", "P", &[0, 1, 0, 0, 0, 0], Ok(9)),
     ("", "S", &[0, 1, 1, 0, 0, 3, 0, 0], Err(Code::F05)),
     ("S", "M", &[0, 1, 1, 0, 0, 3, 0, 0], Err(Code::F05)),
@@ -142,6 +145,10 @@ const DECLARED: &[Declared] = &[
     (&[0, 7, 1, 0], Err(Code::F06), false),
     // A package's body completes no subprogram.
     (&[0, 8, 1], Err(Code::F05), true),
+    // A number and a type may not bear an object's name either.
+    (&[0, 9, 1, 0, 0, 0, 0, 0, 0], Ok(31), true),
+    (&[0, 9, 1, 3, 0, 0, 0, 0, 0, 0], Err(Code::F06), false),
+    (&[0, 9, 1, 3, 0, 1, 0, 0], Err(Code::F06), false),
     // Nothing is declared there.
     (&[], Err(Code::F05), true),
     (&[0, 0, 1, 0, 0], Err(Code::F05), true),
@@ -183,7 +190,8 @@ const PLACES: &[(u32, Option<&'static [u32]>)] = &[
     (13, Some(&[0, 0, 1, 0, 3, 0])),
     (24, Some(&[0, 4, 1, 3, 0, 3, 1, 0, 0, 0, 0, 0, 0])),
     (29, Some(&[0, 7, 1, 0])),
-    (30, None),
+    (33, Some(&[0, 9, 1, 3, 0, 1, 0, 0])),
+    (34, None),
 ];
 
 // A declaration of the units, and its number among the exceptions.

@@ -96,9 +96,10 @@ impl Scope {
         self.in_region(place, name, &region)
     }
 
+    /// What a name sees without `use` clauses.
     #[tactic(auto, using(crate::proofs::Steps::seen_further))]
-    fn seen(&self, place: &Path, name: &Text) -> Result<Option<&Entry>, Memory>
-        ensures { IfOk result (λ e. option_copied e ≡ spec.seen_from self.now place.now name.now (length place.now)) }
+    pub(crate) fn directly(&self, place: &Path, name: &Text) -> Result<Option<&Entry>, Memory>
+        ensures { IfOk result (λ e. option_copied e ≡ spec.directly self.now place.now name.now) }
     {
         for depth in (0..place.0.len()).rev() {
             if let Some(entry) = self.at_depth(place, name, depth)? {
@@ -106,15 +107,5 @@ impl Scope {
             }
         }
         self.outermost(place, name)
-    }
-
-    /// What a name sees without `use` clauses.
-    pub(crate) fn directly(&self, place: &Path, name: &Text) -> Result<Option<&Entry>, Memory>
-        ensures { IfOk result (λ e. option_copied e ≡ spec.directly self.now place.now name.now) }
-    {
-        match self.table.at(&place.0) {
-            Some(entry) if entry.kind == Kind::With => self.earlier_unit(place, name),
-            _ => self.seen(place, name),
-        }
     }
 }

@@ -66,9 +66,23 @@ impl Scope {
         }
     }
 
+    // Whether the name at a place stands in a `with` clause.
+    fn is_in_with(&self, place: &Path) -> bool
+        ensures { result ≡ spec.is_entry_of Kind.With (entry_at self.now place.now) }
+    {
+        match self.table.at(&place.0) {
+            Some(entry) => entry.kind == Kind::With,
+            None => false,
+        }
+    }
+
     fn plainly(&self, place: &Path, name: &Text) -> Result<Found<'_>, Memory>
         ensures { IfOk result (λ f. found_copied f ≡ spec.plainly self.now place.now name.now) }
     {
+        if self.is_in_with(place) {
+            let unit = self.earlier_unit(place, name)?;
+            return Ok(Found::Unseen.or_direct(unit));
+        }
         match self.directly(place, name)? {
             Some(entry) => Ok(Found::One(entry)),
             None => self.by_use(place, name),

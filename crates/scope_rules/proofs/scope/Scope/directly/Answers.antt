@@ -1,7 +1,7 @@
 use Rattle.std.proofs.Common.{rules, ◌≡◌, ◌+◌, ◌-◌, take, sym, ◌∙◌, Some}
 use Rattle.ada_names.specs.Sees.{in_region, region_of}
 use Rattle.scope_rules.proofs.Steps.{seen_here}
-use Rattle.scope_rules.proofs.scope.Scope.seen.Goals as goal
+use Rattle.scope_rules.proofs.scope.Scope.directly.Goals as goal
 
 pub returns-in-Some : goal.returns-in-Some
 returns-in-Some c =
