@@ -1,2 +1,4 @@
 pub mod Besides
 pub mod Fitting
+pub mod Holding
+pub mod Waiting

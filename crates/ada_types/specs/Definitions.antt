@@ -5,16 +5,17 @@ use Rattle.base_kit.specs.declared.fault.Code.TheVariants as code
 use Rattle.ada_tree.specs.declared.kind.Kind.{Kind}
 use Rattle.ada_tree.specs.declared.kind.Kind.TheVariants as kind
 use Rattle.ada_tree.specs.declared.node.Node.{Node}
-use Rattle.ada_tree.specs.Nodes.{kind_of, text_of, kids_of}
+use Rattle.ada_tree.specs.Nodes.{kind_of, text_of, kids_of, is_empty}
 use Rattle.ada_tree.specs.Sights.{parts_of}
 use Rattle.ada_names.specs.Places.{◌▸◌}
 use Rattle.term_core.specs.declared.sort.Sort.{Sort}
 use Rattle.term_core.specs.declared.names.SortEntry.{SortEntry}
 use Rattle.term_core.specs.Terms.{range, largest}
-use Rattle.term_core.specs.Sorts.{truths, array, record_of}
+use Rattle.term_core.specs.Sorts.{whole, truths, array, record_of}
 use Rattle.static_values.specs.declared.entity.BaseType.{BaseType}
 use Rattle.static_values.specs.declared.entity.Subtype.{Subtype}
 use Rattle.static_values.specs.declared.entity.Index.{Index}
+use Rattle.static_values.specs.declared.entity.Component.{Component}
 use Rattle.static_values.specs.declared.entity.Shape.{Shape}
 use Rattle.static_values.specs.declared.entity.Shape.TheVariants as shape
 use Rattle.static_values.specs.declared.entity.Named.{Named}
@@ -23,7 +24,6 @@ use Rattle.static_values.specs.declared.meaning.Meaning.{Meaning}
 use Rattle.static_values.specs.declared.meaning.Use.TheVariants as use_of
 use Rattle.ada_types.specs.declared.definitions.Limits.{Limits}
 use Rattle.ada_types.specs.declared.definitions.Defined.{Defined}
-use Rattle.ada_types.specs.declared.definitions.ComponentList.{ComponentList}
 use Rattle.static_values.specs.Judging.{Rows, asks, ◌⊕◌}
 use Rattle.static_values.specs.Syntax.{expr_of}
 use Rattle.static_values.specs.Entities.{World}
@@ -62,48 +62,55 @@ mark_index n = record { base = type_of n; low = (subtype_of n).low; high = (subt
 abbrev pub array_rows : Index → Rows
 array_rows i = (code.F09, not (is_discrete i.base)) ∷ []
 
--- ---- what is defined: what the type is made of, its range where it has one, and the names of components
+-- ---- what is defined: what the type is made of, and its range where it has one
 
-abbrev pub defined : Shape → ℤ → ℤ → List (List ℕ) → Defined
-defined sh low high parts = record { shape = sh; low = low; high = high; parts = parts }
+abbrev pub defined : Shape → ℤ → ℤ → Defined
+defined sh low high = record { shape = sh; low = low; high = high }
 
 abbrev pub nothing_defined : Defined
-nothing_defined = defined shape.Truth (pos 0) (pos 0) []
+nothing_defined = defined shape.Truth (pos 0) (pos 0)
 
 -- positions of literals are counted from 0
 abbrev pub enumeration : ℕ → Defined
-enumeration count = defined shape.Enumeration (pos 0) (pos count -ℤ pos 1) []
+enumeration count = defined shape.Enumeration (pos 0) (pos count -ℤ pos 1)
 
 abbrev pub integers : Limits → Defined
-integers l = defined shape.Integer (value_of l.low) (value_of l.high) []
+integers l = defined shape.Integer (value_of l.low) (value_of l.high)
 
 abbrev pub array_of : Index → Subtype → Defined
-array_of i element = defined (shape.Array i element) (pos 0) (pos 0) []
+array_of i element = defined (shape.Array i element) (pos 0) (pos 0)
 
-abbrev pub record_with : ComponentList → Defined
-record_with c = defined (shape.Record c.subtypes) (pos 0) (pos 0) c.names
+abbrev pub record_with : List Component → Defined
+record_with cs = defined (shape.Record cs) (pos 0) (pos 0)
 
--- the components so far, with more of them and their names
-abbrev pub with_components : ComponentList → List Subtype → List (List ℕ) → ComponentList
-with_components c subtypes names = record { subtypes = c.subtypes ++ subtypes; names = c.names ++ names }
+-- the names of a record's components
+abbrev pub part_names : Shape → List (List ℕ)
+part_names (shape.Record cs) = map (λ c. c.name) cs
+part_names _ = []
+
+-- a component of each name
+abbrev pub components_of : Subtype → List Node → List Component
+components_of s ids = map (λ id. record { name = text_of id; subtype = s }) ids
 
 -- ---- whole definitions
 
--- the names of a component
-abbrev pub names_in : List Node → List (List ℕ)
-names_in (ids ∷ m ∷ []) = map text_of (kids_of ids)
-names_in _ = []
-
 -- Enum = "(" {Id ,} ")"
+abbrev pub members_of : List Node → List Node
+members_of (ids ∷ []) = kids_of ids
+members_of _ = []
+
+-- it has a literal, as it has in every document
+abbrev pub enumeration_faults : List ℕ → List Node → List Fault
+enumeration_faults path kids = asks path ((code.F08, is_empty (members_of kids)) ∷ [])
+
 abbrev pub enumeration_in : List Node → Defined
-enumeration_in (ids ∷ []) = enumeration (length (kids_of ids))
-enumeration_in _ = nothing_defined
+enumeration_in kids = enumeration (length (members_of kids))
 
 module _ (w : World) where
-  -- two bounds, which must be static
+  -- two bounds, which must be static; a range has two in every document
   abbrev pub bounds_faults : List ℕ → List Node → List Fault
   bounds_faults path (a ∷ b ∷ []) = faults w use_of.Static (path ▸ 0) (expr_of a) ⊕ faults w use_of.Static (path ▸ 1) (expr_of b)
-  bounds_faults path _ = []
+  bounds_faults path _ = asks path ((code.F08, true) ∷ [])
 
   abbrev pub bounds_of : List ℕ → List Node → Limits
   bounds_of path (a ∷ b ∷ []) = limits (meaning w (path ▸ 0) (expr_of a)) (meaning w (path ▸ 1) (expr_of b))
@@ -142,7 +149,7 @@ module _ (w : World) where
     where
       by : Kind → Index
       by kind.Span = span_index (bounds_of path (kids_of node))
-      by kind.RangeOf = mark_index named.Part
+      by kind.RangeOf = mark_index named.Valueless
       by _ = mark_index (mark_in path node)
 
   -- Arr = "array" "(" dis ")" "of" mark
@@ -159,8 +166,8 @@ module _ (w : World) where
   component_faults path (ids ∷ m ∷ []) = mark_in_faults (path ▸ 1) m
   component_faults path _ = []
 
-  abbrev pub components_in : List ℕ → List Node → List Subtype
-  components_in path (ids ∷ m ∷ []) = map (λ id. subtype_of (mark_in (path ▸ 1) m)) (kids_of ids)
+  abbrev pub components_in : List ℕ → List Node → List Component
+  components_in path (ids ∷ m ∷ []) = components_of (subtype_of (mark_in (path ▸ 1) m)) (kids_of ids)
   components_in path _ = []
 
   -- {Comp \n}+, from the member of this number on
@@ -169,12 +176,12 @@ module _ (w : World) where
   components_faults path number (c ∷ cs) = component_faults (path ▸ number) (kids_of c) ⊕ components_faults path (number + 1) cs
 
   -- The components so far, and then those of the members from this number on.
-  abbrev pub more_components : List ℕ → ℕ → ComponentList → List Node → ComponentList
-  more_components path number c [] = c
-  more_components path number c (m ∷ ms) = more_components path (number + 1) (with_components c (components_in (path ▸ number) (kids_of m)) (names_in (kids_of m))) ms
+  abbrev pub more_components : List ℕ → ℕ → List Component → List Node → List Component
+  more_components path number cs [] = cs
+  more_components path number cs (m ∷ ms) = more_components path (number + 1) (cs ++ components_in (path ▸ number) (kids_of m)) ms
 
-  abbrev pub all_of : List ℕ → List Node → ComponentList
-  all_of path members = more_components path 0 (record { subtypes = []; names = [] }) members
+  abbrev pub all_of : List ℕ → List Node → List Component
+  all_of path members = more_components path 0 [] members
 
   -- Rec = "record" {Comp}+ "end" "record"
   abbrev pub record_faults : List ℕ → List Node → List Fault
@@ -190,6 +197,7 @@ module _ (w : World) where
   definition_faults path node = by (kind_of node)
     where
       by : Kind → List Fault
+      by kind.Enum = enumeration_faults path (kids_of node)
       by kind.Range = integer_faults path (kids_of node)
       by kind.Arr = array_faults path (kids_of node)
       by kind.Rec = record_faults path (kids_of node)
@@ -208,24 +216,34 @@ module _ (w : World) where
 -- ---- its sort
 
 module _ (names : List SortEntry) where
+  abbrev pub component_sort : Component → Sort
+  component_sort c = sort_of names c.subtype
+
   -- the sort of a type whose entry has this number
   abbrev pub sort_by : Shape → ℤ → ℤ → ℕ → Sort
   sort_by shape.Integer low high number = range low high
   sort_by shape.Enumeration low high number = range low high
   sort_by shape.Truth low high number = truths
   sort_by (shape.Array i element) low high number = array i.low i.high (sort_of names element)
-  sort_by (shape.Record components) low high number = record_of number (map (sort_of names) components)
+  sort_by shape.Private low high number = whole
+  sort_by (shape.Record components) low high number = record_of number (map component_sort components)
 
   abbrev pub defined_sort : Defined → ℕ → Sort
   defined_sort d number = sort_by d.shape d.low d.high number
 
+  abbrev pub component_nodes : Component → ℕ
+  component_nodes c = nodes_at names c.subtype
+
+  abbrev pub component_depth : Component → ℕ
+  component_depth c = depth_at names c.subtype
+
   -- its nodes and its depth, by arithmetic: each part has as many as its type's entry
   abbrev pub nodes_by : Shape → ℕ
   nodes_by (shape.Array i element) = 1 + nodes_at names element
-  nodes_by (shape.Record components) = 1 + sum (map (nodes_at names) components)
+  nodes_by (shape.Record components) = 1 + sum (map component_nodes components)
   nodes_by _ = 1
 
   abbrev pub depth_by : Shape → ℕ
   depth_by (shape.Array i element) = 1 + depth_at names element
-  depth_by (shape.Record components) = 1 + largest (map (depth_at names) components)
+  depth_by (shape.Record components) = 1 + largest (map component_depth components)
   depth_by _ = 1

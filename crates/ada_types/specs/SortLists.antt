@@ -8,6 +8,8 @@ use Rattle.ada_tree.specs.declared.node.Node.{Node}
 use Rattle.ada_tree.specs.Kinds.{is_kind}
 use Rattle.ada_tree.specs.Nodes.{kind_of, text_of, kids_of, node_at}
 use Rattle.term_core.specs.declared.sort.Sort.{Sort}
+use Rattle.term_core.specs.declared.sort.Sort.TheOpen.{Sort-F}
+use Rattle.term_core.specs.declared.sort.Sort.TheViews.{out-Sort}
 use Rattle.term_core.specs.declared.names.SortEntry.{SortEntry}
 use Rattle.term_core.specs.Terms.{range}
 use Rattle.term_core.specs.Sorts.{truths}
@@ -37,6 +39,17 @@ begun (e ∷ es) = e ∷ es
 abbrev pub fresh_for : List SortEntry → Option (List SortEntry)
 fresh_for [] = Some predefined_entries
 fresh_for (e ∷ es) = None
+
+-- ---- where an entry may stand
+
+-- the record of this number, with so many parts
+abbrev pub is_record : ℕ → ℕ → Sort-F Sort → Bool
+is_record number count (Sort-F.Record n parts) = nat_eq n number && nat_eq (length parts) count
+is_record number count _ = false
+
+-- an entry with names of components is that of a record with its number
+abbrev pub may_stand : ℕ → SortEntry → Bool
+may_stand number e = nat_eq (length e.parts) 0 || is_record number (length e.parts) (out-Sort e.sort)
 
 -- ---- expanded names
 

@@ -9,26 +9,36 @@ ghost use Rattle.ada_types.specs.SortLists as lists;
 ghost use Rattle.ada_types.specs.Declarations as decl;
 
 use crate::declarations::{
-    Addition, Constrained, Declares, beside, constant, constant_use, declare_ids, number, ranged,
-    value, variable_use,
+    Addition, Constrained, Declares, Initial, Spot, beside, constant, constant_initial,
+    declare_ids, number, object_by, of_mark, ranged, value, variable_initial,
 };
-use crate::definitions::{Defined, definition};
+use crate::definitions::{Defined, definition, members};
 use crate::made_sorts::{defined_sort, is_too_large};
-use crate::sizes::sort_of;
+use crate::sizes::{sort_of, whole};
 use crate::sort_names::{expanded, is_packaged, is_shown};
 use ada_names::kid;
 use ada_tree::{Kind, Lookup, Node};
 use base_kit::{Code, Copied, Memory, Names, Path, Stop, Text};
-use static_values::{Entities, Entity, Subtype, Use, ask, expression, mark, value_of};
+use static_values::{Entities, Entity, Shape, Subtype, Use, ask, expression, mark, value_of};
 use std::alloc::Global;
-use term_core::SortEntry;
+use term_core::{Sort, SortEntry};
 
+/// A declaration at its path in a document.
+#[derive(Clone, Copy)]
+pub struct Declaration<'a> {
+    pub doc: &'a Node,
+    pub at: &'a Path,
+    pub node: &'a Node,
+}
+
+/// That nothing is added.
 pub fn nothing(alloc: Global) -> Addition
     ensures { result ≡ decl.added [] None }
 {
     Addition {
         entities: Entities::new(alloc),
         entry: None,
+        completes: None,
     }
 }
 
@@ -40,7 +50,10 @@ fn named<N: Lookup>(
     what: Declares,
     ids: &Node,
 ) -> Result<Addition, Stop>
-    ensures { Gives (decl.ids_faults (N.sight names.now) (decl.beside at.now) (kids_of ids.now)) (decl.added (decl.declared_ids (N.sight names.now) (decl.beside at.now) what 0 [] (kids_of ids.now)) None) result }
+    ensures { Gives
+        (decl.ids_faults (N.sight names.now) (decl.beside at.now) (kids_of ids.now))
+        (decl.named_as (N.sight names.now) at.now what (kids_of ids.now))
+        result }
 {
     let after = beside(alloc, at)?;
     let none = Entities::new(alloc);
@@ -48,6 +61,7 @@ fn named<N: Lookup>(
     Ok(Addition {
         entities,
         entry: None,
+        completes: None,
     })
 }
 
@@ -60,33 +74,51 @@ fn object_type<N: Lookup>(
     marked: &Node,
     range: &Node,
 ) -> Result<Constrained, Stop>
-    ensures { Gives (decl.ranged_faults (spec.world (N.sight names.now) entities.now) (at.now ▸ 1) (at.now ▸ 2) marked.now range.now) (decl.ranged_with (spec.world (N.sight names.now) entities.now) (at.now ▸ 1) (at.now ▸ 2) marked.now range.now) result }
+    ensures { Gives
+        (decl.object_type_faults (spec.world (N.sight names.now) entities.now) at.now marked.now
+        range.now)
+        (decl.object_type (spec.world (N.sight names.now) entities.now) at.now marked.now range.now)
+        result }
 {
-    let at_mark = kid(alloc, at, 1)?;
-    let at_range = kid(alloc, at, 2)?;
-    ranged(alloc, names, entities, &at_mark, &at_range, marked, range)
+    let mark = Spot {
+        at: &kid(alloc, at, 1)?,
+        node: marked,
+    };
+    let limits = Spot {
+        at: &kid(alloc, at, 2)?,
+        node: range,
+    };
+    ranged(alloc, names, entities, mark, limits)
 }
 
-// An object of this subtype: its initial expression and its names.
+// The names of a declaration at this path, and their initial expression.
+#[derive(Clone, Copy)]
+struct Objects<'a> {
+    at: &'a Path,
+    ids: &'a Node,
+    value: &'a Node,
+}
+
+// Variables: their initial expression and their names.
 #[tactic(auto, using(static_values::proofs::Firsts::first_stays, static_values::proofs::Firsts::first_after))]
 fn object_with<N: Lookup>(
     alloc: Global,
     names: &N,
     entities: &Entities,
-    packaged: bool,
-    at: &Path,
-    made: Constrained,
-    ids: &Node,
-    initial: &Node,
+    initial: Initial,
+    own: Objects<'_>,
 ) -> Result<Addition, Stop>
-    ensures { Gives (decl.value_faults (spec.world (N.sight names.now) entities.now) (decl.variable_use packaged made initial.now) (at.now ▸ 3) made.base at.now initial.now ⊕ decl.ids_faults (N.sight names.now) (decl.beside at.now) (kids_of ids.now)) (decl.added (decl.declared_ids (N.sight names.now) (decl.beside at.now) (Declares.Object made.subtype) 0 [] (kids_of ids.now)) None) result }
+    ensures { Gives
+        (decl.value_faults (spec.world (N.sight names.now) entities.now) initial own.entry.at.now
+        own.entry.value.now
+        ⊕ decl.ids_faults (N.sight names.now) (decl.beside own.entry.at.now)
+        (kids_of own.entry.ids.now))
+        (decl.named_as (N.sight names.now) own.entry.at.now (decl.object_by initial.made)
+        (kids_of own.entry.ids.now))
+        result }
 {
-    let usage = variable_use(packaged, made, initial);
-    let below = kid(alloc, at, 3)?;
-    value(
-        alloc, names, entities, usage, &below, made.base, at, initial,
-    )?;
-    named(alloc, names, at, Declares::Object(made.subtype), ids)
+    value(alloc, names, entities, own.at, initial, own.value)?;
+    named(alloc, names, own.at, object_by(initial.made), own.ids)
 }
 
 #[tactic(auto, using(static_values::proofs::Firsts::first_stays, static_values::proofs::Firsts::first_after))]
@@ -98,35 +130,44 @@ fn object<N: Lookup>(
     at: &Path,
     node: &Node,
 ) -> Result<Addition, Stop>
-    ensures { Gives (decl.object_faults (spec.world (N.sight names.now) entities.now) packaged at.now (kids_of node.now)) (decl.object_in (spec.world (N.sight names.now) entities.now) at.now (kids_of node.now)) result }
+    ensures { Gives
+        (decl.object_faults (spec.world (N.sight names.now) entities.now) packaged at.now
+        (kids_of node.now))
+        (decl.object_in (spec.world (N.sight names.now) entities.now) at.now (kids_of node.now))
+        result }
 {
-    let [ids, marked, range, initial] = node.kids.as_slice() else {
+    let [ids, marked, range, value] = node.kids.as_slice() else {
         return Ok(nothing(alloc));
     };
     let made = object_type(alloc, names, entities, at, marked, range)?;
-    object_with(alloc, names, entities, packaged, at, made, ids, initial)
+    let initial = variable_initial(packaged, made, ids.kids.as_slice(), value);
+    let own = Objects { at, ids, value };
+    object_with(alloc, names, entities, initial, own)
 }
 
-// A constant of this subtype: its value and its names.
+// Constants: their value and their names.
 #[tactic(auto, using(static_values::proofs::Firsts::first_stays, static_values::proofs::Firsts::first_after))]
 fn constant_with<N: Lookup>(
     alloc: Global,
     names: &N,
     entities: &Entities,
-    packaged: bool,
-    at: &Path,
-    made: Constrained,
-    ids: &Node,
-    initial: &Node,
+    initial: Initial,
+    own: Objects<'_>,
 ) -> Result<Addition, Stop>
-    ensures { Gives (decl.value_faults (spec.world (N.sight names.now) entities.now) (decl.constant_use packaged made initial.now) (at.now ▸ 3) made.base at.now initial.now ⊕ decl.ids_faults (N.sight names.now) (decl.beside at.now) (kids_of ids.now)) (decl.added (decl.declared_ids (N.sight names.now) (decl.beside at.now) (decl.constant_by made.subtype (decl.value_in (spec.world (N.sight names.now) entities.now) (at.now ▸ 3) initial.now)) 0 [] (kids_of ids.now)) None) result }
+    ensures { Gives
+        (decl.value_faults (spec.world (N.sight names.now) entities.now) initial own.entry.at.now
+        own.entry.value.now
+        ⊕ decl.ids_faults (N.sight names.now) (decl.beside own.entry.at.now)
+        (kids_of own.entry.ids.now))
+        (decl.named_as (N.sight names.now) own.entry.at.now
+        (decl.constant_by initial.made
+        (decl.value_in (spec.world (N.sight names.now) entities.now) own.entry.at.now
+        own.entry.value.now))
+        (kids_of own.entry.ids.now))
+        result }
 {
-    let usage = constant_use(packaged, made, initial);
-    let below = kid(alloc, at, 3)?;
-    let value = value(
-        alloc, names, entities, usage, &below, made.base, at, initial,
-    )?;
-    named(alloc, names, at, constant(made.subtype, value), ids)
+    let value = value(alloc, names, entities, own.at, initial, own.value)?;
+    named(alloc, names, own.at, constant(initial.made, value), own.ids)
 }
 
 #[tactic(auto, using(static_values::proofs::Firsts::first_stays, static_values::proofs::Firsts::first_after))]
@@ -138,13 +179,19 @@ fn constant_object<N: Lookup>(
     at: &Path,
     node: &Node,
 ) -> Result<Addition, Stop>
-    ensures { Gives (decl.constant_faults (spec.world (N.sight names.now) entities.now) packaged at.now (kids_of node.now)) (decl.constant_in (spec.world (N.sight names.now) entities.now) at.now (kids_of node.now)) result }
+    ensures { Gives
+        (decl.constant_faults (spec.world (N.sight names.now) entities.now) packaged at.now
+        (kids_of node.now))
+        (decl.constant_in (spec.world (N.sight names.now) entities.now) at.now (kids_of node.now))
+        result }
 {
-    let [ids, marked, range, initial] = node.kids.as_slice() else {
+    let [ids, marked, range, value] = node.kids.as_slice() else {
         return Ok(nothing(alloc));
     };
     let made = object_type(alloc, names, entities, at, marked, range)?;
-    constant_with(alloc, names, entities, packaged, at, made, ids, initial)
+    let initial = constant_initial(packaged, made, ids.kids.as_slice(), value);
+    let own = Objects { at, ids, value };
+    constant_with(alloc, names, entities, initial, own)
 }
 
 #[tactic(auto, using(static_values::proofs::Firsts::first_stays, static_values::proofs::Firsts::first_after))]
@@ -155,7 +202,12 @@ fn named_number<N: Lookup>(
     at: &Path,
     node: &Node,
 ) -> Result<Addition, Stop>
-    ensures { Gives (decl.named_number_faults (spec.world (N.sight names.now) entities.now) at.now (kids_of node.now)) (decl.named_number_in (spec.world (N.sight names.now) entities.now) at.now (kids_of node.now)) result }
+    ensures { Gives
+        (decl.named_number_faults (spec.world (N.sight names.now) entities.now) at.now
+        (kids_of node.now))
+        (decl.named_number_in (spec.world (N.sight names.now) entities.now) at.now
+        (kids_of node.now))
+        result }
 {
     let [ids, number] = node.kids.as_slice() else {
         return Ok(nothing(alloc));
@@ -173,7 +225,12 @@ fn exception<N: Lookup>(
     at: &Path,
     node: &Node,
 ) -> Result<Addition, Stop>
-    ensures { Gives (decl.exception_faults (spec.world (N.sight names.now) entities.now) at.now (kids_of node.now)) (decl.exception_in (spec.world (N.sight names.now) entities.now) at.now (kids_of node.now)) result }
+    ensures { Gives
+        (decl.exception_faults (spec.world (N.sight names.now) entities.now) at.now
+        (kids_of node.now))
+        (decl.exception_in (spec.world (N.sight names.now) entities.now) at.now
+        (kids_of node.now))
+        result }
 {
     match node.kids.as_slice() {
         [ids] => named(alloc, names, at, Declares::Exception, ids),
@@ -189,13 +246,17 @@ fn formal<N: Lookup>(
     at: &Path,
     node: &Node,
 ) -> Result<Addition, Stop>
-    ensures { Gives (decl.formal_faults (spec.world (N.sight names.now) entities.now) at.now (kids_of node.now)) (decl.formal_in (spec.world (N.sight names.now) entities.now) at.now (kids_of node.now)) result }
+    ensures { Gives
+        (decl.formal_faults (spec.world (N.sight names.now) entities.now) at.now
+        (kids_of node.now))
+        (decl.formal_in (spec.world (N.sight names.now) entities.now) at.now (kids_of node.now))
+        result }
 {
     let [ids, marked] = node.kids.as_slice() else {
         return Ok(nothing(alloc));
     };
     let of = mark(alloc, names, entities, &kid(alloc, at, 1)?, marked)?;
-    named(alloc, names, at, Declares::Object(of.subtype()), ids)
+    named(alloc, names, at, object_by(of_mark(of)), ids)
 }
 
 // The number of an entry. Past 32 bits there is none.
@@ -217,47 +278,158 @@ fn base_at(known: &[SortEntry], entry: u32) -> u32
     }
 }
 
+fn subtype_sort(alloc: Global, known: &[SortEntry], made: Constrained) -> Result<Sort, Memory>
+    ensures { IfOk result (λ sort. sort ≡ decl.subtype_sort known.now made) }
+{
+    if made.class.is_private() {
+        Ok(whole())
+    } else {
+        sort_of(alloc, known, made.subtype)
+    }
+}
+
+fn subtype_base(known: &[SortEntry], made: Constrained, number: u32) -> u32
+    requires { number ≡ length known.now }
+    ensures { result ≡ decl.subtype_base known.now made }
+{
+    if made.class.is_private() {
+        number
+    } else {
+        base_at(known, made.subtype.entry)
+    }
+}
+
+// What is kept of a subtype with this entry.
+fn subtype_by(made: Constrained, number: u32) -> Entity
+    ensures { result ≡ decl.subtype_by made number }
+{
+    if made.class.is_private() {
+        return Entity::PrivateSubtype(made.subtype.base, number);
+    }
+    Entity::Subtype(Subtype {
+        entry: number,
+        ..made.subtype
+    })
+}
+
 fn subtype_entry(
     alloc: Global,
     known: &[SortEntry],
-    doc: &Node,
-    at: &Path,
-    text: &Text,
-    subtype: Subtype,
+    own: Declaration<'_>,
+    made: Constrained,
 ) -> Result<SortEntry, Memory>
-    ensures { IfOk result (λ e. e ≡ decl.subtype_entry known.now doc.now at.now text.now subtype) }
+    ensures { IfOk result (λ e.
+        e ≡ decl.subtype_entry known.now own.entry.doc.now own.entry.at.now
+        (text_of own.entry.node.now) made) }
 {
+    let number = next_entry(known)?;
     Ok(SortEntry {
-        name: expanded(alloc, doc, at, text)?,
-        sort: sort_of(alloc, known, subtype)?,
+        name: expanded(alloc, own.doc, own.at, &own.node.text)?,
+        sort: subtype_sort(alloc, known, made)?,
         seen: false,
         parts: Names::new(alloc),
-        base: base_at(known, subtype.entry),
+        base: subtype_base(known, made, number),
     })
 }
 
 fn added_subtype(
     alloc: Global,
     known: &[SortEntry],
-    doc: &Node,
-    at: &Path,
-    text: &Text,
-    subtype: Subtype,
+    own: Declaration<'_>,
+    made: Constrained,
     id: u32,
 ) -> Result<Addition, Memory>
-    ensures { IfOk result (λ a. a ≡ decl.subtype_with known.now doc.now at.now text.now subtype id) }
+    ensures { IfOk result (λ a.
+        a ≡ decl.subtype_with known.now own.entry.doc.now own.entry.at.now
+        (text_of own.entry.node.now) made id) }
 {
-    let entry = subtype_entry(alloc, known, doc, at, text, subtype)?;
-    let own = Subtype {
-        entry: next_entry(known)?,
-        ..subtype
-    };
+    let entry = subtype_entry(alloc, known, own, made)?;
     let mut entities = Entities::new(alloc);
-    entities.declare(id, Entity::Subtype(own))?;
+    entities.declare(id, subtype_by(made, next_entry(known)?))?;
     Ok(Addition {
         entities,
         entry: Some(entry),
+        completes: None,
     })
+}
+
+// A private type before its full type.
+fn private_type<N: Lookup>(
+    alloc: Global,
+    names: &N,
+    entities: &Entities,
+    at: &Path,
+    node: &Node,
+) -> Result<Addition, Stop>
+    ensures { Gives
+        (decl.private_faults (spec.world (N.sight names.now) entities.now) at.now (text_of node.now))
+        (decl.private_in (spec.world (N.sight names.now) entities.now) at.now (text_of node.now))
+        result }
+{
+    let after = beside(alloc, at)?;
+    let id = number(alloc, names, &after, &node.text)?;
+    let subtype = Subtype {
+        base: id,
+        entry: 0,
+        low: 0,
+        high: 0,
+    };
+    let mut own = Entities::new(alloc);
+    own.declare(id, Entity::Type(subtype, Shape::Private))?;
+    Ok(Addition {
+        entities: own,
+        entry: None,
+        completes: None,
+    })
+}
+
+// A subtype under its number.
+fn numbered_subtype<N: Lookup>(
+    alloc: Global,
+    names: &N,
+    known: &[SortEntry],
+    own: Declaration<'_>,
+    made: Constrained,
+) -> Result<Addition, Stop>
+    ensures { Gives
+        (decl.number_faults (N.sight names.now) (decl.beside own.entry.at.now)
+        (text_of own.entry.node.now))
+        (decl.subtype_with known.now own.entry.doc.now own.entry.at.now
+        (text_of own.entry.node.now) made
+        (decl.number_of_name (N.sight names.now) (decl.beside own.entry.at.now)
+        (text_of own.entry.node.now)))
+        result }
+{
+    let after = beside(alloc, own.at)?;
+    let id = number(alloc, names, &after, &own.node.text)?;
+    Ok(added_subtype(alloc, known, own, made, id)?)
+}
+
+// The mark and the range of a subtype.
+fn subtype_type<N: Lookup>(
+    alloc: Global,
+    names: &N,
+    entities: &Entities,
+    at: &Path,
+    marked: &Node,
+    range: &Node,
+) -> Result<Constrained, Stop>
+    ensures { Gives
+        (decl.ranged_faults (spec.world (N.sight names.now) entities.now) (at.now ▸ 0)
+        (at.now ▸ 1) marked.now range.now)
+        (decl.ranged_with (spec.world (N.sight names.now) entities.now) (at.now ▸ 0)
+        (at.now ▸ 1) marked.now range.now)
+        result }
+{
+    let mark = Spot {
+        at: &kid(alloc, at, 0)?,
+        node: marked,
+    };
+    let limits = Spot {
+        at: &kid(alloc, at, 1)?,
+        node: range,
+    };
+    ranged(alloc, names, entities, mark, limits)
 }
 
 #[tactic(auto, using(static_values::proofs::Firsts::first_stays, static_values::proofs::Firsts::first_after))]
@@ -266,21 +438,21 @@ fn subtype<N: Lookup>(
     names: &N,
     entities: &Entities,
     known: &[SortEntry],
-    doc: &Node,
-    at: &Path,
-    node: &Node,
+    own: Declaration<'_>,
 ) -> Result<Addition, Stop>
-    ensures { Gives (decl.subtype_faults (spec.world (N.sight names.now) entities.now) at.now (text_of node.now) (kids_of node.now)) (decl.subtype_in (spec.world (N.sight names.now) entities.now) known.now doc.now at.now (text_of node.now) (kids_of node.now)) result }
+    ensures { Gives
+        (decl.subtype_faults (spec.world (N.sight names.now) entities.now) own.entry.at.now
+        (text_of own.entry.node.now) (kids_of own.entry.node.now))
+        (decl.subtype_in (spec.world (N.sight names.now) entities.now) known.now
+        own.entry.doc.now own.entry.at.now (text_of own.entry.node.now)
+        (kids_of own.entry.node.now))
+        result }
 {
-    let [marked, range] = node.kids.as_slice() else {
+    let [marked, range] = own.node.kids.as_slice() else {
         return Ok(nothing(alloc));
     };
-    let at_mark = kid(alloc, at, 0)?;
-    let at_range = kid(alloc, at, 1)?;
-    let made = ranged(alloc, names, entities, &at_mark, &at_range, marked, range)?;
-    let after = beside(alloc, at)?;
-    let id = number(alloc, names, &after, &node.text)?;
-    Ok(added_subtype(alloc, known, doc, at, &node.text, made.subtype, id)?)
+    let made = subtype_type(alloc, names, entities, own.at, marked, range)?;
+    numbered_subtype(alloc, names, known, own, made)
 }
 
 // The subtype of all values of a type.
@@ -297,33 +469,37 @@ fn first_subtype(id: u32, entry: u32, made: &Defined) -> Subtype
     }
 }
 
+// The names of a record's components.
+fn part_names(alloc: Global, shape: &Shape) -> Result<Names, Memory>
+    ensures { IfOk result (λ names. names ≡ def.part_names shape.now) }
+{
+    let mut names = Names::new(alloc);
+    if let Shape::Record(components) = shape {
+        for component in components.as_slice() {
+            names.push(component.name.copy(alloc)?)?;
+        }
+    }
+    Ok(names)
+}
+
 fn type_entry(
     alloc: Global,
     known: &[SortEntry],
-    doc: &Node,
-    at: &Path,
-    text: &Text,
+    own: Declaration<'_>,
     made: &Defined,
 ) -> Result<SortEntry, Memory>
-    ensures { IfOk result (λ e. e ≡ decl.type_entry known.now doc.now at.now text.now made.now) }
+    ensures { IfOk result (λ e.
+        e ≡ decl.type_entry known.now own.entry.doc.now own.entry.at.now
+        (text_of own.entry.node.now) made.now) }
 {
     let number = next_entry(known)?;
     Ok(SortEntry {
-        name: expanded(alloc, doc, at, text)?,
+        name: expanded(alloc, own.doc, own.at, &own.node.text)?,
         sort: defined_sort(alloc, known, made, number)?,
-        seen: is_shown(doc, at),
-        parts: made.parts.copy(alloc)?,
+        seen: is_shown(own.doc, own.at),
+        parts: part_names(alloc, &made.shape)?,
         base: number,
     })
-}
-
-fn members(node: &Node) -> &[Node]
-    ensures { result.now ≡ decl.members_of (kids_of node.now) }
-{
-    match node.kids.as_slice() {
-        [ids] => ids.kids.as_slice(),
-        _ => &[],
-    }
 }
 
 // The literals of an enumeration.
@@ -336,31 +512,6 @@ fn literals(node: &Node) -> &[Node]
     }
 }
 
-// A type and its literals.
-fn type_entities<N: Lookup>(
-    alloc: Global,
-    names: &N,
-    after: &Path,
-    id: u32,
-    entry: u32,
-    made: Defined,
-    node: &Node,
-) -> Result<Entities, Stop>
-    ensures { Gives (decl.ids_faults (N.sight names.now) after.now (decl.literals_of node.now)) (decl.type_entities (N.sight names.now) after.now id entry made node.now) result }
-{
-    let subtype = first_subtype(id, entry, &made);
-    let mut entities = Entities::new(alloc);
-    entities.declare(id, Entity::Type(subtype, made.shape))?;
-    declare_ids(
-        alloc,
-        names,
-        after,
-        Declares::Literal(subtype),
-        literals(node),
-        entities,
-    )
-}
-
 // The type definition, where it is no larger than may be.
 #[tactic(auto, using(static_values::proofs::Firsts::first_stays, static_values::proofs::Firsts::first_after), unfolding(crate::specs::Declarations::sized_faults))]
 fn sized<N: Lookup>(
@@ -371,54 +522,85 @@ fn sized<N: Lookup>(
     at: &Path,
     node: &Node,
 ) -> Result<Defined, Stop>
-    ensures { Gives (decl.sized_faults (spec.world (N.sight names.now) entities.now) known.now at.now node.now) (def.definition_in (spec.world (N.sight names.now) entities.now) (at.now ▸ 0) node.now) result }
+    ensures { Gives
+        (decl.sized_faults (spec.world (N.sight names.now) entities.now) known.now at.now
+        node.now)
+        (def.definition_in (spec.world (N.sight names.now) entities.now) (at.now ▸ 0) node.now)
+        result }
 {
     let made = definition(alloc, names, entities, &kid(alloc, at, 0)?, node)?;
     ask(alloc, at, &[(Code::F11, is_too_large(known, &made.shape))])?;
     Ok(made)
 }
 
-// A type under its number.
+// The private type that a type of this number completes.
+fn private_of(entities: &Entities, id: u32) -> Option<u32>
+    ensures { result ≡ decl.private_of entities.now id }
+{
+    match entities.get(id) {
+        Some(Entity::Type(_, Shape::Private)) => Some(id),
+        _ => None,
+    }
+}
+
+// The names of a type declaration, which are seen from the place after it.
+#[derive(Clone, Copy)]
+struct TypeNames<'a> {
+    after: &'a Path,
+    text: &'a Text,
+    literals: &'a [Node],
+}
+
+// A type of this number and with this entry, and its literals.
 fn numbered<N: Lookup>(
     alloc: Global,
     names: &N,
-    known: &[SortEntry],
-    doc: &Node,
-    at: &Path,
-    after: &Path,
-    text: &Text,
+    own: TypeNames<'_>,
     id: u32,
+    entry: u32,
     made: Defined,
-    node: &Node,
-) -> Result<Addition, Stop>
-    ensures { Gives (decl.ids_faults (N.sight names.now) after.now (decl.literals_of node.now)) (decl.type_with known.now doc.now at.now text.now made (decl.type_entities (N.sight names.now) after.now id (length known.now) made node.now)) result }
+) -> Result<Entities, Stop>
+    ensures { Gives
+        (decl.ids_faults (N.sight names.now) own.entry.after.now own.entry.literals.now)
+        (decl.type_entities (N.sight names.now) own.entry.after.now id entry made
+        own.entry.literals.now)
+        result }
 {
-    let entry = type_entry(alloc, known, doc, at, text, &made)?;
-    let number = next_entry(known)?;
-    let entities = type_entities(alloc, names, after, id, number, made, node)?;
-    Ok(Addition {
-        entities,
-        entry: Some(entry),
-    })
+    let subtype = first_subtype(id, entry, &made);
+    let what = Declares::Literal(subtype);
+    let mut entities = Entities::new(alloc);
+    entities.declare(id, Entity::Type(subtype, made.shape))?;
+    declare_ids(alloc, names, own.after, what, own.literals, entities)
 }
 
-// A type and its literals, under their numbers.
+// A type with this entry and its literals, under their numbers.
 #[tactic(auto, using(static_values::proofs::Firsts::first_stays, static_values::proofs::Firsts::first_after))]
 fn under_numbers<N: Lookup>(
     alloc: Global,
     names: &N,
-    known: &[SortEntry],
-    doc: &Node,
-    at: &Path,
-    after: &Path,
-    text: &Text,
+    entities: &Entities,
+    own: TypeNames<'_>,
     made: Defined,
-    node: &Node,
+    entry: SortEntry,
 ) -> Result<Addition, Stop>
-    ensures { Gives (decl.number_faults (N.sight names.now) after.now text.now ⊕ decl.ids_faults (N.sight names.now) after.now (decl.literals_of node.now)) (decl.type_with known.now doc.now at.now text.now made (decl.type_entities (N.sight names.now) after.now (decl.number_of_name (N.sight names.now) after.now text.now) (length known.now) made node.now)) result }
+    ensures { Gives
+        (decl.number_faults (N.sight names.now) own.entry.after.now own.entry.text.now
+        ⊕ decl.ids_faults (N.sight names.now) own.entry.after.now own.entry.literals.now)
+        (decl.type_with entry
+        (decl.type_entities (N.sight names.now) own.entry.after.now
+        (decl.number_of_name (N.sight names.now) own.entry.after.now own.entry.text.now)
+        entry.base made own.entry.literals.now)
+        (decl.private_of entities.now
+        (decl.number_of_name (N.sight names.now) own.entry.after.now own.entry.text.now)))
+        result }
 {
-    let id = number(alloc, names, after, text)?;
-    numbered(alloc, names, known, doc, at, after, text, id, made, node)
+    let id = number(alloc, names, own.after, own.text)?;
+    let declared = numbered(alloc, names, own, id, entry.base, made)?;
+    Ok(Addition {
+        entities: declared,
+        entry: Some(entry),
+        completes: private_of(entities, id),
+    })
 }
 
 #[tactic(auto, using(static_values::proofs::Firsts::first_stays, static_values::proofs::Firsts::first_after))]
@@ -427,20 +609,29 @@ fn type_declaration<N: Lookup>(
     names: &N,
     entities: &Entities,
     known: &[SortEntry],
-    doc: &Node,
-    at: &Path,
-    node: &Node,
+    own: Declaration<'_>,
 ) -> Result<Addition, Stop>
-    ensures { Gives (decl.type_faults (spec.world (N.sight names.now) entities.now) known.now doc.now at.now (text_of node.now) (kids_of node.now)) (decl.type_in (spec.world (N.sight names.now) entities.now) known.now doc.now at.now (text_of node.now) (kids_of node.now)) result }
+    ensures { Gives
+        (decl.type_faults (spec.world (N.sight names.now) entities.now) known.now
+        own.entry.doc.now own.entry.at.now (text_of own.entry.node.now)
+        (kids_of own.entry.node.now))
+        (decl.type_in (spec.world (N.sight names.now) entities.now) known.now
+        own.entry.doc.now own.entry.at.now (text_of own.entry.node.now)
+        (kids_of own.entry.node.now))
+        result }
 {
-    let [defining] = node.kids.as_slice() else {
+    let [defining] = own.node.kids.as_slice() else {
         return Ok(nothing(alloc));
     };
-    let made = sized(alloc, names, entities, known, at, defining)?;
-    let after = beside(alloc, at)?;
-    under_numbers(
-        alloc, names, known, doc, at, &after, &node.text, made, defining,
-    )
+    let made = sized(alloc, names, entities, known, own.at, defining)?;
+    let entry = type_entry(alloc, known, own, &made)?;
+    let after = beside(alloc, own.at)?;
+    let own = TypeNames {
+        after: &after,
+        text: &own.node.text,
+        literals: literals(defining),
+    };
+    under_numbers(alloc, names, entities, own, made, entry)
 }
 
 /// What a declaration adds to the types, given the list of type names so far.
@@ -449,15 +640,22 @@ pub fn addition<N: Lookup>(
     names: &N,
     entities: &Entities,
     known: &[SortEntry],
-    doc: &Node,
-    at: &Path,
-    node: &Node,
+    own: Declaration<'_>,
 ) -> Result<Addition, Stop>
-    ensures { Gives (decl.faults_of (spec.world (N.sight names.now) entities.now) known.now doc.now at.now (kind_of node.now) (text_of node.now) (kids_of node.now)) (decl.addition_of (spec.world (N.sight names.now) entities.now) known.now doc.now at.now (kind_of node.now) (text_of node.now) (kids_of node.now)) result }
+    ensures { Gives
+        (decl.faults_of (spec.world (N.sight names.now) entities.now) known.now
+        own.entry.doc.now own.entry.at.now (kind_of own.entry.node.now)
+        (text_of own.entry.node.now) (kids_of own.entry.node.now))
+        (decl.addition_of (spec.world (N.sight names.now) entities.now) known.now
+        own.entry.doc.now own.entry.at.now (kind_of own.entry.node.now)
+        (text_of own.entry.node.now) (kids_of own.entry.node.now))
+        result }
 {
+    let Declaration { doc, at, node } = own;
     match node.kind {
-        Kind::TypeDecl => type_declaration(alloc, names, entities, known, doc, at, node),
-        Kind::Subtype => subtype(alloc, names, entities, known, doc, at, node),
+        Kind::TypeDecl => type_declaration(alloc, names, entities, known, own),
+        Kind::Private => private_type(alloc, names, entities, at, node),
+        Kind::Subtype => subtype(alloc, names, entities, known, own),
         Kind::Obj => object(alloc, names, entities, is_packaged(doc, at), at, node),
         Kind::Const => constant_object(alloc, names, entities, is_packaged(doc, at), at, node),
         Kind::Formal => formal(alloc, names, entities, at, node),

@@ -1,6 +1,6 @@
 // Type definitions: what each defines, or its first fault.
-ghost use Rattle.std.specs.Prelude.{◌≡◌, ◌+◌, ◌∷◌, [], ◌++◌, map, length, IfOk};
-ghost use Rattle.ada_tree.specs.Nodes.{kind_of, text_of, kids_of};
+ghost use Rattle.std.specs.Prelude.{◌≡◌, ◌+◌, ◌∷◌, [], ◌++◌, pos, IfOk};
+ghost use Rattle.ada_tree.specs.Nodes.{kind_of, kids_of};
 ghost use Rattle.ada_tree.specs.Sights.{parts_of};
 ghost use Rattle.static_values.specs.Judging.{asks, Gives};
 ghost use Rattle.static_values.specs.Entities as spec;
@@ -8,12 +8,15 @@ ghost use Rattle.ada_types.specs.Definitions as def;
 
 use ada_names::kid;
 use ada_tree::{Kind, Lookup, Node};
-use base_kit::{Code, Copied, Listed, Memory, Names, Path, Stop};
+use base_kit::{Code, Copied, Listed, Memory, Path, Stop};
 use static_values::{
-    BaseType, Entities, Index, Meaning, Named, Shape, Subtype, Use, ask, expression, mark, unknown,
-    value_of,
+    BaseType, Component, Entities, Index, Meaning, Named, Shape, Subtype, Use, ask, expression,
+    mark, unknown, value_of,
 };
 use std::alloc::Global;
+
+/// Components in order.
+pub type Components = Listed<Component>;
 
 /// What two bounds mean.
 #[derive(Clone, Copy)]
@@ -22,13 +25,12 @@ pub struct Limits {
     pub high: Meaning,
 }
 
-/// What a type is made of, its range where it has one, and the names of its components.
+/// What a type is made of, and its range where it has one.
 #[derive(Drop)]
 pub struct Defined {
     pub shape: Shape,
     pub low: i64,
     pub high: i64,
-    pub parts: Names,
 }
 
 impl Limits {
@@ -77,7 +79,11 @@ pub fn bounds<N: Lookup>(
     at: &Path,
     node: &Node,
 ) -> Result<Limits, Stop>
-    ensures { Gives (def.bounds_faults (spec.world (N.sight names.now) entities.now) at.now (kids_of node.now)) (def.bounds_of (spec.world (N.sight names.now) entities.now) at.now (kids_of node.now)) result }
+    ensures { Gives
+        (def.bounds_faults (spec.world (N.sight names.now) entities.now) at.now
+        (kids_of node.now))
+        (def.bounds_of (spec.world (N.sight names.now) entities.now) at.now (kids_of node.now))
+        result }
 {
     match node.kids.as_slice() {
         [low, high] => {
@@ -87,10 +93,13 @@ pub fn bounds<N: Lookup>(
             let high = expression(alloc, names, entities, &beside, Use::Static, high)?;
             Ok(Limits { low, high })
         }
-        _ => Ok(Limits {
-            low: unknown(),
-            high: unknown(),
-        }),
+        _ => {
+            ask(alloc, at, &[(Code::F08, true)])?;
+            Ok(Limits {
+                low: unknown(),
+                high: unknown(),
+            })
+        }
     }
 }
 
@@ -103,7 +112,13 @@ fn integers<N: Lookup>(
     at: &Path,
     node: &Node,
 ) -> Result<Defined, Stop>
-    ensures { Gives (def.integer_faults (spec.world (N.sight names.now) entities.now) at.now (kids_of node.now)) (def.integers (def.bounds_of (spec.world (N.sight names.now) entities.now) at.now (kids_of node.now))) result }
+    ensures { Gives
+        (def.integer_faults (spec.world (N.sight names.now) entities.now) at.now
+        (kids_of node.now))
+        (def.integers
+        (def.bounds_of (spec.world (N.sight names.now) entities.now) at.now
+        (kids_of node.now)))
+        result }
 {
     let limits = bounds(alloc, names, entities, at, node)?;
     let fails = !(limits.low.base.is_integer() && limits.high.base.is_integer());
@@ -116,7 +131,6 @@ fn integers<N: Lookup>(
         shape: Shape::Integer,
         low: value_of(&limits.low),
         high: value_of(&limits.high),
-        parts: Names::new(alloc),
     })
 }
 
@@ -128,7 +142,12 @@ fn span<N: Lookup>(
     at: &Path,
     node: &Node,
 ) -> Result<Index, Stop>
-    ensures { Gives (def.span_faults (spec.world (N.sight names.now) entities.now) at.now (kids_of node.now)) (def.span_index (def.bounds_of (spec.world (N.sight names.now) entities.now) at.now (kids_of node.now))) result }
+    ensures { Gives
+        (def.span_faults (spec.world (N.sight names.now) entities.now) at.now (kids_of node.now))
+        (def.span_index
+        (def.bounds_of (spec.world (N.sight names.now) entities.now) at.now
+        (kids_of node.now)))
+        result }
 {
     let limits = bounds(alloc, names, entities, at, node)?;
     let fails = !limits.low.base.agrees(limits.high.base);
@@ -148,13 +167,17 @@ fn range_of<N: Lookup>(
     at: &Path,
     node: &Node,
 ) -> Result<Index, Stop>
-    ensures { Gives (def.range_of_faults (spec.world (N.sight names.now) entities.now) at.now (kids_of node.now)) (def.mark_index Named.Part) result }
+    ensures { Gives
+        (def.range_of_faults (spec.world (N.sight names.now) entities.now) at.now
+        (kids_of node.now))
+        (def.mark_index Named.Valueless)
+        result }
 {
     if let [prefix] = node.kids.as_slice() {
         mark(alloc, names, entities, &kid(alloc, at, 0)?, prefix)?;
     }
     ask(alloc, at, &[(Code::F08, true)])?;
-    Ok(mark_index(Named::Part))
+    Ok(mark_index(Named::Valueless))
 }
 
 // The index of an array.
@@ -165,7 +188,10 @@ fn index<N: Lookup>(
     at: &Path,
     node: &Node,
 ) -> Result<Index, Stop>
-    ensures { Gives (def.index_faults (spec.world (N.sight names.now) entities.now) at.now node.now) (def.index_in (spec.world (N.sight names.now) entities.now) at.now node.now) result }
+    ensures { Gives
+        (def.index_faults (spec.world (N.sight names.now) entities.now) at.now node.now)
+        (def.index_in (spec.world (N.sight names.now) entities.now) at.now node.now)
+        result }
 {
     match node.kind {
         Kind::Span => span(alloc, names, entities, at, node),
@@ -174,15 +200,21 @@ fn index<N: Lookup>(
     }
 }
 
-fn nothing(alloc: Global) -> Defined
-    ensures { result ≡ def.nothing_defined }
+// What has this shape, and no range.
+fn shaped(shape: Shape) -> Defined
+    ensures { result ≡ def.defined shape (pos 0) (pos 0) }
 {
     Defined {
-        shape: Shape::Truth,
+        shape,
         low: 0,
         high: 0,
-        parts: Names::new(alloc),
     }
+}
+
+fn nothing() -> Defined
+    ensures { result ≡ def.nothing_defined }
+{
+    shaped(Shape::Truth)
 }
 
 #[tactic(auto, using(static_values::proofs::Firsts::first_stays, static_values::proofs::Firsts::first_after))]
@@ -193,25 +225,19 @@ fn array<N: Lookup>(
     at: &Path,
     node: &Node,
 ) -> Result<Defined, Stop>
-    ensures { Gives (def.array_faults (spec.world (N.sight names.now) entities.now) at.now (kids_of node.now)) (def.array_in (spec.world (N.sight names.now) entities.now) at.now (kids_of node.now)) result }
+    ensures { Gives
+        (def.array_faults (spec.world (N.sight names.now) entities.now) at.now
+        (kids_of node.now))
+        (def.array_in (spec.world (N.sight names.now) entities.now) at.now (kids_of node.now))
+        result }
 {
     let [indexes, element] = node.kids.as_slice() else {
-        return Ok(nothing(alloc));
+        return Ok(nothing());
     };
     let index = index(alloc, names, entities, &kid(alloc, at, 0)?, indexes)?;
     let element = mark(alloc, names, entities, &kid(alloc, at, 1)?, element)?;
     ask(alloc, at, &[(Code::F09, !index.base.is_discrete())])?;
-    Ok(Defined {
-        shape: Shape::Array(index, element.subtype()),
-        ..nothing(alloc)
-    })
-}
-
-/// The components so far, and their names.
-#[derive(Drop)]
-pub struct ComponentList {
-    pub subtypes: Listed<Subtype>,
-    pub names: Names,
+    Ok(shaped(Shape::Array(index, element.subtype())))
 }
 
 // Adds a component of this subtype for each name.
@@ -219,13 +245,13 @@ fn add_components(
     alloc: Global,
     subtype: Subtype,
     ids: &Node,
-    mut components: ComponentList,
-) -> Result<ComponentList, Memory>
-    ensures { IfOk result (λ c. c ≡ def.with_components components (map (λ id. subtype) (kids_of ids.now)) (map text_of (kids_of ids.now))) }
+    mut components: Components,
+) -> Result<Components, Memory>
+    ensures { IfOk result (λ cs. cs ≡ components ++ def.components_of subtype (kids_of ids.now)) }
 {
     for id in ids.kids.as_slice() {
-        components.subtypes.push(subtype)?;
-        components.names.push(id.text.copy(alloc)?)?;
+        let name = id.text.copy(alloc)?;
+        components.push(Component { name, subtype })?;
     }
     Ok(components)
 }
@@ -236,9 +262,13 @@ fn component<N: Lookup>(
     entities: &Entities,
     at: &Path,
     node: &Node,
-    components: ComponentList,
-) -> Result<ComponentList, Stop>
-    ensures { Gives (def.component_faults (spec.world (N.sight names.now) entities.now) at.now (kids_of node.now)) (def.with_components components (def.components_in (spec.world (N.sight names.now) entities.now) at.now (kids_of node.now)) (def.names_in (kids_of node.now))) result }
+    components: Components,
+) -> Result<Components, Stop>
+    ensures { Gives
+        (def.component_faults (spec.world (N.sight names.now) entities.now) at.now (kids_of node.now))
+        (components
+        ++ def.components_in (spec.world (N.sight names.now) entities.now) at.now (kids_of node.now))
+        result }
 {
     let [ids, of] = node.kids.as_slice() else {
         return Ok(components);
@@ -255,13 +285,14 @@ fn components<N: Lookup>(
     entities: &Entities,
     at: &Path,
     node: &Node,
-) -> Result<ComponentList, Stop>
-    ensures { Gives (def.components_faults (spec.world (N.sight names.now) entities.now) at.now 0 (kids_of node.now)) (def.all_of (spec.world (N.sight names.now) entities.now) at.now (kids_of node.now)) result }
+) -> Result<Components, Stop>
+    ensures { Gives
+        (def.components_faults (spec.world (N.sight names.now) entities.now) at.now 0
+        (kids_of node.now))
+        (def.all_of (spec.world (N.sight names.now) entities.now) at.now (kids_of node.now))
+        result }
 {
-    let mut components = ComponentList {
-        subtypes: Listed::new(alloc),
-        names: Names::new(alloc),
-    };
+    let mut components = Components::new(alloc);
     for (number, member) in node.kids.as_slice().iter().enumerate() {
         let below = kid(alloc, at, number)?;
         components = component(alloc, names, entities, &below, member, components)?;
@@ -277,34 +308,44 @@ fn record<N: Lookup>(
     at: &Path,
     node: &Node,
 ) -> Result<Defined, Stop>
-    ensures { Gives (def.record_faults (spec.world (N.sight names.now) entities.now) at.now (kids_of node.now)) (def.record_in (spec.world (N.sight names.now) entities.now) at.now (kids_of node.now)) result }
+    ensures { Gives
+        (def.record_faults (spec.world (N.sight names.now) entities.now) at.now
+        (kids_of node.now))
+        (def.record_in (spec.world (N.sight names.now) entities.now) at.now (kids_of node.now))
+        result }
 {
     let [members] = node.kids.as_slice() else {
-        return Ok(nothing(alloc));
+        return Ok(nothing());
     };
     let made = components(alloc, names, entities, &kid(alloc, at, 0)?, members)?;
-    Ok(Defined {
-        shape: Shape::Record(made.subtypes),
-        low: 0,
-        high: 0,
-        parts: made.names,
-    })
+    Ok(shaped(Shape::Record(made)))
 }
 
-fn enumeration(alloc: Global, node: &Node) -> Result<Defined, Memory>
-    ensures { IfOk result (λ d. d ≡ def.enumeration_in (kids_of node.now)) }
+/// The members of the one list that a node has.
+pub fn members(node: &Node) -> &[Node]
+    ensures { result.now ≡ def.members_of (kids_of node.now) }
 {
-    let [ids] = node.kids.as_slice() else {
-        return Ok(nothing(alloc));
-    };
-    let Ok(count) = i64::try_from(ids.kids.as_slice().len()) else {
-        return Err(Memory);
+    match node.kids.as_slice() {
+        [ids] => ids.kids.as_slice(),
+        _ => &[],
+    }
+}
+
+fn enumeration(alloc: Global, at: &Path, node: &Node) -> Result<Defined, Stop>
+    ensures { Gives
+        (def.enumeration_faults at.now (kids_of node.now))
+        (def.enumeration_in (kids_of node.now))
+        result }
+{
+    let ids = members(node);
+    ask(alloc, at, &[(Code::F08, ids.is_empty())])?;
+    let Ok(count) = i64::try_from(ids.len()) else {
+        return Err(Stop::Memory);
     };
     Ok(Defined {
         shape: Shape::Enumeration,
         low: 0,
         high: count - 1,
-        parts: Names::new(alloc),
     })
 }
 
@@ -316,13 +357,16 @@ pub fn definition<N: Lookup>(
     at: &Path,
     node: &Node,
 ) -> Result<Defined, Stop>
-    ensures { Gives (def.definition_faults (spec.world (N.sight names.now) entities.now) at.now node.now) (def.definition_in (spec.world (N.sight names.now) entities.now) at.now node.now) result }
+    ensures { Gives
+        (def.definition_faults (spec.world (N.sight names.now) entities.now) at.now node.now)
+        (def.definition_in (spec.world (N.sight names.now) entities.now) at.now node.now)
+        result }
 {
     match node.kind {
-        Kind::Enum => Ok(enumeration(alloc, node)?),
+        Kind::Enum => enumeration(alloc, at, node),
         Kind::Range => integers(alloc, names, entities, at, node),
         Kind::Arr => array(alloc, names, entities, at, node),
         Kind::Rec => record(alloc, names, entities, at, node),
-        _ => Ok(nothing(alloc)),
+        _ => Ok(nothing()),
     }
 }

@@ -6,6 +6,7 @@ mod declarations;
 mod definitions;
 mod limits;
 mod made_sorts;
+mod settling;
 mod sizes;
 mod sort_names;
 mod types;

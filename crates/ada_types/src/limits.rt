@@ -5,3 +5,7 @@ pub const LARGEST_SORT: u64 = 1000;
 
 /// How many nodes of a declared type's sort contain each other, at most.
 pub const DEEPEST_SORT: u64 = 64;
+
+/// The most nodes that the names of one declaration hold together, where its initial expression is held once
+/// for each of several names.
+pub const MOST_HELD: u64 = 20_000;

@@ -9,26 +9,26 @@ use crate::limits::{DEEPEST_SORT, LARGEST_SORT};
 use crate::sizes::{depth_at, nodes_at, sort_of};
 use base_kit::Memory;
 use sqlite_items::{Boxed, Items};
-use static_values::{Shape, Subtype};
+use static_values::{Component, Shape};
 use std::alloc::Global;
 use term_core::{Sort, SortEntry, Sorts};
 
-fn all_nodes(names: &[SortEntry], parts: &[Subtype]) -> u64
-    ensures { result ≡ min (1 + sum (map (size.nodes_at names.now) parts.now)) (2 ^ 64 - 1) }
+fn all_nodes(names: &[SortEntry], parts: &[Component]) -> u64
+    ensures { result ≡ min (1 + sum (map (def.component_nodes names.now) parts.now)) (2 ^ 64 - 1) }
 {
     let mut count = 1u64;
     for part in parts {
-        count = count.saturating_add(nodes_at(names, *part));
+        count = count.saturating_add(nodes_at(names, part.subtype));
     }
     count
 }
 
-fn deepest(names: &[SortEntry], parts: &[Subtype]) -> u64
-    ensures { result ≡ min (largest (map (size.depth_at names.now) parts.now)) (2 ^ 64 - 1) }
+fn deepest(names: &[SortEntry], parts: &[Component]) -> u64
+    ensures { result ≡ min (largest (map (def.component_depth names.now) parts.now)) (2 ^ 64 - 1) }
 {
     let mut most = 0u64;
     for part in parts {
-        most = most.max(depth_at(names, *part));
+        most = most.max(depth_at(names, part.subtype));
     }
     most
 }
@@ -55,17 +55,19 @@ fn depth(names: &[SortEntry], shape: &Shape) -> u64
 
 /// Whether the sort of a type is too large, by arithmetic: no sort is made for it.
 pub fn is_too_large(names: &[SortEntry], shape: &Shape) -> bool
-    ensures { result ≡ size.is_too_large (def.nodes_by names.now shape.now) (def.depth_by names.now shape.now) }
+    ensures { result
+        ≡ size.is_too_large (def.nodes_by names.now shape.now)
+        (def.depth_by names.now shape.now) }
 {
     nodes(names, shape) > LARGEST_SORT || depth(names, shape) > DEEPEST_SORT
 }
 
-fn sorts_of(alloc: Global, names: &[SortEntry], parts: &[Subtype]) -> Result<Sorts, Memory>
-    ensures { IfOk result (λ sorts. sorts ≡ map (size.sort_of names.now) parts.now) }
+fn sorts_of(alloc: Global, names: &[SortEntry], parts: &[Component]) -> Result<Sorts, Memory>
+    ensures { IfOk result (λ sorts. sorts ≡ map (def.component_sort names.now) parts.now) }
 {
     let mut sorts = Items::new(alloc);
     for part in parts {
-        sorts.push(sort_of(alloc, names, *part)?)?;
+        sorts.push(sort_of(alloc, names, part.subtype)?)?;
     }
     Ok(sorts)
 }
@@ -84,6 +86,7 @@ pub fn defined_sort(
     match &defined.shape {
         Shape::Integer | Shape::Enumeration => Ok(Sort::Range(low, high)),
         Shape::Truth => Ok(Sort::Truth),
+        Shape::Private => Ok(Sort::Whole),
         Shape::Array(index, element) => {
             let element = sort_of(alloc, names, *element)?;
             Ok(Sort::Array(index.low, index.high, Boxed::new(alloc, element)?))

@@ -52,8 +52,8 @@ fn range(low: i64, high: i64) -> Sort
     Sort::Range(low, high)
 }
 
-// All whole numbers.
-fn whole() -> Sort
+/// All whole numbers.
+pub fn whole() -> Sort
     ensures { result ≡ whole }
 {
     Sort::Whole

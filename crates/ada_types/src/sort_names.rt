@@ -45,7 +45,9 @@ fn with_dot(mut prefix: Vec<u8>, name: &Text) -> Result<Vec<u8>, Memory>
 
 // What a node puts before the names that are declared in it.
 fn with_own(prefix: Vec<u8>, node: &Node) -> Result<Vec<u8>, Memory>
-    ensures { IfOk result (λ made. made.items ≡ prefix.items ++ spec.own_prefix (kind_of node.now) (text_of node.now) (kids_of node.now)) }
+    ensures { IfOk result (λ made.
+        made.items ≡ prefix.items ++ spec.own_prefix (kind_of node.now) (text_of node.now)
+        (kids_of node.now)) }
 {
     match node.kind {
         Kind::Pack | Kind::Body => with_dot(prefix, &node.text),

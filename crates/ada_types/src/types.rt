@@ -1,5 +1,5 @@
 // The types of a document, and static values.
-ghost use Rattle.std.specs.Prelude.{◌≡◌, [], nat_eq, true, IfOk, OnOk, OnErr};
+ghost use Rattle.std.specs.Prelude.{◌≡◌, [], nat_eq, true, unwrap_or, IfOk, OnOk, OnErr};
 ghost use Rattle.std.specs.Option.{option_copied};
 ghost use Rattle.indexmap.specs.IndexMap.{insert_all};
 ghost use Rattle.ada_tree.specs.Nodes.{node_at as found_at};
@@ -11,8 +11,9 @@ ghost use Rattle.static_values.specs.Expressions as walk;
 ghost use Rattle.ada_types.specs.SortLists.{begun, fresh_for};
 ghost use Rattle.ada_types.specs.Declarations as decl;
 
-use crate::adding::{addition, nothing};
+use crate::adding::{Declaration, addition, nothing};
 use crate::declarations::Addition;
+use crate::settling::{are_new, settled, waiting_for};
 use crate::sort_names::{predefined_names, reached};
 use ada_tree::{Doc, Lookup, Node};
 use base_kit::{Code, Memory, Path, Stop};
@@ -56,8 +57,16 @@ pub fn static_value<N: Lookup>(
     expr: &Node,
     at: &Path,
 ) -> Result<i64, Stop>
-    ensures answer { Gives (walk.faults (world (N.sight names.now) types.now.entities) Use.Static at.now (expr_of expr.now)) (value_of (walk.meaning (world (N.sight names.now) types.now.entities) at.now (expr_of expr.now))) result }
-    ensures it_is_there { IfOk result (λ v. (walk.meaning (world (N.sight names.now) types.now.entities) at.now (expr_of expr.now)).value ≡ Some v) }
+    ensures answer { Gives
+        (walk.faults (world (N.sight names.now) types.now.entities) Use.Static at.now
+        (expr_of expr.now))
+        (value_of
+        (walk.meaning (world (N.sight names.now) types.now.entities) at.now
+        (expr_of expr.now)))
+        result }
+    ensures it_is_there { IfOk result (λ v.
+        (walk.meaning (world (N.sight names.now) types.now.entities) at.now (expr_of expr.now)).value
+        ≡ Some v) }
     ensures in_base { IfOk result (λ v. in_base v ≡ true) }
 {
     static_values::static_value(alloc, &types.entities, names, expr, at)
@@ -94,10 +103,15 @@ fn judged<N: Lookup>(
     doc: &Node,
     at: &Path,
 ) -> Result<Addition, Stop>
-    ensures { Gives (decl.node_faults (world (N.sight names.now) entities.now) known.now doc.now at.now (found_at at.now doc.now)) (decl.node_addition (world (N.sight names.now) entities.now) known.now doc.now at.now (found_at at.now doc.now)) result }
+    ensures { Gives
+        (decl.node_faults (world (N.sight names.now) entities.now) known.now doc.now at.now
+        (found_at at.now doc.now))
+        (decl.node_addition (world (N.sight names.now) entities.now) known.now doc.now at.now
+        (found_at at.now doc.now))
+        result }
 {
     match reached(doc, at.0.as_slice()) {
-        Some(node) => addition(alloc, names, entities, known, doc, at, node),
+        Some(node) => addition(alloc, names, entities, known, Declaration { doc, at, node }),
         None => {
             ask(alloc, at, &[(Code::F08, true)])?;
             Ok(nothing(alloc))
@@ -105,23 +119,63 @@ fn judged<N: Lookup>(
     }
 }
 
-// Adds the entry, to the fresh list where the list hasn't begun.
+// The list that an entry is added to, where it isn't the one that is there.
+#[tactic(auto, using(crate::proofs::Waiting::begins))]
+fn list_before(
+    alloc: Global,
+    fresh: Option<SortNames>,
+    names: &SortNames,
+    entities: &Entities,
+    addition: &Addition,
+) -> Result<Option<SortNames>, Memory>
+    requires { fresh ≡ fresh_for names.now }
+    ensures { IfOk result (λ other.
+        unwrap_or other names.now ≡ decl.names_before entities.now addition.now (begun names.now)) }
+{
+    let waiting = waiting_for(alloc, addition.completes, entities)?;
+    if waiting.is_empty() {
+        return Ok(fresh);
+    }
+    let Some(full) = &addition.entry else {
+        return Ok(fresh);
+    };
+    match &fresh {
+        Some(fresh) => Ok(Some(settled(alloc, fresh, full, waiting.as_slice())?)),
+        None => Ok(Some(settled(alloc, names, full, waiting.as_slice())?)),
+    }
+}
+
+// The addition with its entities, if all of them are new.
+fn new_alone(alloc: Global, entities: &Entities, addition: Addition) -> Addition
+    ensures entities { result.entities ≡ decl.only_new entities.now addition.entities }
+    ensures entry { result.entry ≡ addition.entry }
+{
+    if are_new(entities, &addition.entities) {
+        addition
+    } else {
+        Addition {
+            entities: Entities::new(alloc),
+            ..addition
+        }
+    }
+}
+
+// Adds the entry, to the other list if there is one.
 fn add_entry(
     names: &mut SortNames,
-    fresh: Option<SortNames>,
+    other: Option<SortNames>,
     entry: Option<SortEntry>,
 ) -> Result<(), Memory>
-    requires fresh { fresh ≡ fresh_for names.old }
-    requires fits { decl.MayStand (begun names.old) entry }
-    ensures ok { OnOk result (names.new ≡ decl.with_entry (begun names.old) entry) }
+    requires fits { decl.MayStand (unwrap_or other names.old) entry }
+    ensures ok { OnOk result (names.new ≡ decl.with_entry (unwrap_or other names.old) entry) }
     ensures err { OnErr result (names.new ≡ names.old) }
 {
-    match (fresh, entry) {
-        (Some(mut begun), Some(entry)) => {
-            begun.push(entry)?;
-            *names = begun;
+    match (other, entry) {
+        (Some(mut other), Some(entry)) => {
+            other.push(entry)?;
+            *names = other;
         }
-        (Some(begun), None) => *names = begun,
+        (Some(other), None) => *names = other,
         (None, Some(entry)) => names.push(entry)?,
         (None, None) => {}
     }
@@ -132,22 +186,23 @@ fn add_entry(
 fn commit(
     entities: &mut Entities,
     names: &mut SortNames,
-    fresh: Option<SortNames>,
+    other: Option<SortNames>,
     addition: Addition,
 ) -> Result<(), Memory>
-    requires fresh { fresh ≡ fresh_for names.old }
-    requires fits { decl.MayStand (begun names.old) addition.entry }
+    requires fits { decl.MayStand (unwrap_or other names.old) addition.entry }
     ensures entities { OnOk result (entities.new ≡ insert_all nat_eq entities.old addition.entities) }
-    ensures names { OnOk result (names.new ≡ decl.with_entry (begun names.old) addition.entry) }
+    ensures names { OnOk result
+        (names.new ≡ decl.with_entry (unwrap_or other names.old) addition.entry) }
     ensures old_entities { OnErr result (entities.new ≡ entities.old) }
     ensures old_names { OnErr result (names.new ≡ names.old) }
 {
     let Addition {
         entities: mut added,
         entry,
+        ..
     } = addition;
     entities.map.reserve(added.map.len())?;
-    add_entry(names, fresh, entry)?;
+    add_entry(names, other, entry)?;
     // There is room for all.
     entities.map.append(&mut added.map)?;
     Ok(())
@@ -162,7 +217,11 @@ pub fn type_of_decl<N: Lookup>(
     names: &N,
     at: &Path,
 ) -> Result<(), Stop>
-    ensures adds { Leads (decl.decl_faults (N.sight names.now) types.old doc.now at.now) (decl.decl_after (N.sight names.now) types.old doc.now at.now) types.new result }
+    ensures adds { Leads
+        (decl.decl_faults (N.sight names.now) types.old doc.now at.now)
+        (decl.decl_after (N.sight names.now) types.old doc.now at.now)
+        types.new
+        result }
     ensures unchanged { OnErr result (types.new ≡ types.old) }
 {
     type_of_node(alloc, types, &doc.root, names, at)
@@ -176,12 +235,18 @@ pub fn type_of_node<N: Lookup>(
     names: &N,
     at: &Path,
 ) -> Result<(), Stop>
-    ensures adds { Leads (decl.decl_faults (N.sight names.now) types.old root.now at.now) (decl.decl_after (N.sight names.now) types.old root.now at.now) types.new result }
+    ensures adds { Leads
+        (decl.decl_faults (N.sight names.now) types.old root.now at.now)
+        (decl.decl_after (N.sight names.now) types.old root.now at.now)
+        types.new
+        result }
     ensures unchanged { OnErr result (types.new ≡ types.old) }
 {
     let fresh = fresh_names(alloc, &types.names)?;
     let list = known(&fresh, &types.names);
     let addition = judged(alloc, names, &types.entities, list, root, at)?;
-    commit(&mut types.entities, &mut types.names, fresh, addition)?;
+    let other = list_before(alloc, fresh, &types.names, &types.entities, &addition)?;
+    let addition = new_alone(alloc, &types.entities, addition);
+    commit(&mut types.entities, &mut types.names, other, addition)?;
     Ok(())
 }

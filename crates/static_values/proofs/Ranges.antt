@@ -14,8 +14,9 @@ use Rattle.static_values.specs.declared.entity.Named.TheVariants as named
 use Rattle.static_values.specs.declared.meaning.Family.{Family}
 use Rattle.static_values.specs.declared.meaning.Family.TheVariants as family
 use Rattle.static_values.specs.declared.meaning.Meaning.{Meaning}
-use Rattle.static_values.specs.Syntax.{Expr, int, name, unary, binary, attribute, applied, other}
+use Rattle.static_values.specs.Syntax.{Expr, int, name, unary, binary, attribute, applied, component, other}
 use Rattle.static_values.specs.Entities.{World}
+use Rattle.static_values.specs.Components.{selected_of, selected_meaning}
 use Rattle.static_values.specs.Rules.{whole, unknown, overflow, static, static1, static2, computed1, computed2, divides, in_base, meant, base_type, number_of, unary_meaning, binary_by_family, family_of, joined, Bounds, bounds, without, unjudged, bound_meaning, attribute_of, bounds_of, applied_by, taken, position, integer}
 use Rattle.static_values.specs.Expressions.{meaning, denoted}
 
@@ -53,7 +54,7 @@ of_named (named.Number v) = of_static base.Universal v
 of_named (named.Object s c) = of_none (whole (base_type c s.base)) refl
 of_named (named.Mark s c) = of_none unknown refl
 of_named named.Valueless = of_none unknown refl
-of_named named.Part = of_none unknown refl
+of_named (named.Part b) = of_none (whole b) refl
 of_named named.Unkept = of_none unknown refl
 
 of_unary : (o : Operator) (a : Meaning) → Lies (unary_meaning o a)
@@ -98,4 +99,5 @@ module _ (w : World) where
   lies path (binary o a b) = of_family (family_of o) o (meaning w (path ▸ 0) a) (meaning w (path ▸ 1) b)
   lies path (attribute parts text) = of_bound (attribute_of text) (bounds_of (denoted w (path ▸ 0) parts))
   lies path (applied parts text a) = of_applied (attribute_of text) (denoted w (path ▸ 0 ▸ 0) parts) (meaning w (path ▸ 1 ▸ 0) a)
+  lies path (component a text) = of_none (selected_meaning (selected_of w.entities (meaning w (path ▸ 0) a).base text)) refl
   lies path other = of_none unknown refl

@@ -8,7 +8,7 @@ use Rattle.ada_names.specs.Places.{◌▸◌}
 use Rattle.static_values.specs.declared.meaning.Meaning.{Meaning}
 use Rattle.static_values.specs.declared.meaning.Use.TheVariants as use_of
 use Rattle.static_values.specs.Judging.{Rows, asks, ◌⊕◌}
-use Rattle.static_values.specs.Syntax.{Expr, int, name, unary, binary, attribute, applied, other}
+use Rattle.static_values.specs.Syntax.{Expr, int, name, unary, binary, attribute, applied, component, other}
 use Rattle.static_values.specs.Entities.{World}
 use Rattle.static_values.specs.Rules.{value_of, use_rows}
 use Rattle.static_values.specs.Expressions.{meaning, faults, at_node, own_rows, name_faults, prefix_faults}
@@ -42,4 +42,6 @@ module _ (w : World) where
   has_value path (applied parts text a) h =
       own path (applied parts text a) (none_behind (faults w use_of.Read (path ▸ 1 ▸ 0) a) (at_node w use_of.Static path (applied parts text a))
       (none_behind (prefix_faults w path parts text) (faults w use_of.Read (path ▸ 1 ▸ 0) a ⊕ at_node w use_of.Static path (applied parts text a)) h))
+  has_value path (component a text) h =
+      own path (component a text) (none_behind (faults w use_of.Read (path ▸ 0) a) (at_node w use_of.Static path (component a text)) h)
   has_value path other h = own path other h

@@ -4,14 +4,17 @@ use Rattle.base_kit.specs.declared.fault.Fault.{Fault}
 use Rattle.base_kit.specs.declared.fault.Code.TheVariants as code
 use Rattle.ada_tree.specs.Sights.{Sight, nothing, two}
 use Rattle.ada_names.specs.Places.{◌▸◌}
+use Rattle.static_values.specs.declared.entity.BaseType.TheVariants as base
 use Rattle.static_values.specs.declared.entity.Named.{Named}
 use Rattle.static_values.specs.declared.entity.Named.TheVariants as named
 use Rattle.static_values.specs.declared.meaning.Use.{Use}
 use Rattle.static_values.specs.declared.meaning.Use.TheVariants as use_of
 use Rattle.static_values.specs.declared.meaning.Meaning.{Meaning}
 use Rattle.static_values.specs.Judging.{Rows, asks, ◌⊕◌}
-use Rattle.static_values.specs.Syntax.{Parts, Expr, int, name, unary, binary, attribute, applied, other}
-use Rattle.static_values.specs.Entities.{World, stands_for}
+use Rattle.static_values.specs.Syntax.{Parts, Expr, int, name, unary, binary, attribute, applied, component, other}
+use Rattle.static_values.specs.declared.entity.Selected.{Selected}
+use Rattle.static_values.specs.Entities.{Declared, World, stands_for}
+use Rattle.static_values.specs.Components.{selected_of, selected_rows, selected_type, selected_meaning}
 use Rattle.static_values.specs.Rules.{unknown, meant, literal, unary_meaning, binary_meaning, attribute_meaning, applied_meaning, name_rows, unary_rows, binary_rows, attribute_rows, prefix_rows, applied_rows, use_rows}
 
 -- ---- names
@@ -39,36 +42,57 @@ is_object (named.Static s c v) = true
 is_object (named.Number v) = true
 is_object _ = false
 
+-- what is no name, as if it were a component of what isn't judged
+abbrev pub no_name : Named
+no_name = named.Part base.Unjudged
+
 abbrev pub is_mark : Named → Bool
 is_mark (named.Mark s c) = true
 is_mark _ = false
+
+-- ---- components
+
+module _ (es : Declared) where
+  -- what a name selects of the object that stands before its dot
+  abbrev pub selected_after : Named → List ℕ → Selected
+  selected_after before text = selected_of es (meant before).base text
+
+  -- those of the object, and then those of the component
+  unfoldable pub part_faults : List ℕ → List ℕ → Named → List Fault
+  part_faults path text before =
+      asks (path ▸ 0) ((code.F08, not (is_object before)) ∷ []) ⊕ asks path (selected_rows (selected_after before text))
+
+  abbrev pub part : List ℕ → Named → Named
+  part text before = named.Part (selected_type (selected_after before text))
 
 module _ (w : World) where
   abbrev pub stands : Parts → List ℕ → Named
   stands parts path = stands_for w.entities (w.sees parts path)
 
-  -- A name before a dot: what isn't kept may be a package, which shows the name; else an object, of which the name is a part.
-  abbrev pub shown_after : List ℕ → Parts → Named → Named
-  shown_after path parts before = if is_unkept before then stands parts path else named.Part
+  -- Before the dot: what isn't kept may be a package, which shows the name; else an object, of which the name is a component.
+  abbrev pub shown_after : List ℕ → Parts → List ℕ → Named → Named
+  shown_after path parts text before = if is_unkept before then stands parts path else part w.entities text before
 
-  abbrev pub after_dot : List ℕ → Parts → Named → List Fault
-  after_dot path parts before = if is_unkept before then sight_faults (w.sees parts path) path else asks (path ▸ 0) ((code.F08, not (is_object before)) ∷ [])
+  abbrev pub after_dot : List ℕ → Parts → List ℕ → Named → List Fault
+  after_dot path parts text before =
+      if is_unkept before then sight_faults (w.sees parts path) path else part_faults w.entities path text before
 
-  abbrev pub select_denoted : List ℕ → Parts → Parts → Named
-  select_denoted path prefix parts = shown_after path parts (stands prefix (path ▸ 0))
+  abbrev pub select_denoted : List ℕ → Parts → Parts → List ℕ → Named
+  select_denoted path prefix parts text = shown_after path parts text (stands prefix (path ▸ 0))
 
-  abbrev pub select_faults : List ℕ → Parts → Parts → List Fault
-  select_faults path prefix parts = sight_faults (w.sees prefix (path ▸ 0)) (path ▸ 0) ⊕ after_dot path parts (stands prefix (path ▸ 0))
+  abbrev pub select_faults : List ℕ → Parts → Parts → List ℕ → List Fault
+  select_faults path prefix parts text =
+      sight_faults (w.sees prefix (path ▸ 0)) (path ▸ 0) ⊕ after_dot path parts text (stands prefix (path ▸ 0))
 
   -- what a name in an expression stands for
   abbrev pub denoted : List ℕ → Parts → Named
   denoted path (x ∷ []) = stands (x ∷ []) path
-  denoted path (p ∷ x ∷ []) = select_denoted path (p ∷ []) (p ∷ x ∷ [])
-  denoted path _ = named.Part
+  denoted path (p ∷ x ∷ []) = select_denoted path (p ∷ []) (p ∷ x ∷ []) x
+  denoted path _ = no_name
 
   abbrev pub name_faults : List ℕ → Parts → List Fault
   name_faults path (x ∷ []) = sight_faults (w.sees (x ∷ []) path) path
-  name_faults path (p ∷ x ∷ []) = select_faults path (p ∷ []) (p ∷ x ∷ [])
+  name_faults path (p ∷ x ∷ []) = select_faults path (p ∷ []) (p ∷ x ∷ []) x
   name_faults path _ = []
 
   -- ---- marks
@@ -77,7 +101,7 @@ module _ (w : World) where
   abbrev pub marked : List ℕ → Parts → Named
   marked path (x ∷ []) = stands (x ∷ []) path
   marked path (p ∷ x ∷ []) = stands (p ∷ x ∷ []) path
-  marked path _ = named.Part
+  marked path _ = no_name
 
   -- a name that stands alone, or after a package's
   abbrev pub own_mark_faults : List ℕ → Parts → List Fault
@@ -105,6 +129,7 @@ module _ (w : World) where
   meaning path (binary o a b) = binary_meaning o (meaning (path ▸ 0) a) (meaning (path ▸ 1) b)
   meaning path (attribute parts text) = attribute_meaning text (denoted (path ▸ 0) parts)
   meaning path (applied parts text a) = applied_meaning text (denoted (path ▸ 0 ▸ 0) parts) (meaning (path ▸ 1 ▸ 0) a)
+  meaning path (component a text) = selected_meaning (selected_of w.entities (meaning (path ▸ 0) a).base text)
   meaning path other = unknown
 
   -- what is asked of an expression at its node, once its parts have no fault: by its kind
@@ -115,6 +140,7 @@ module _ (w : World) where
   own_rows path (binary o a b) = binary_rows o (meaning (path ▸ 0) a) (meaning (path ▸ 1) b)
   own_rows path (attribute parts text) = attribute_rows text (denoted (path ▸ 0) parts)
   own_rows path (applied parts text a) = applied_rows text (denoted (path ▸ 0 ▸ 0) parts) (meaning (path ▸ 1 ▸ 0) a)
+  own_rows path (component a text) = selected_rows (selected_of w.entities (meaning (path ▸ 0) a).base text)
   own_rows path other = []
 
   -- by its kind, and then by its use
@@ -134,4 +160,5 @@ module _ (w : World) where
   faults u path (attribute parts text) = name_faults (path ▸ 0) parts ⊕ at_node u path (attribute parts text)
   faults u path (applied parts text a) =
       prefix_faults path parts text ⊕ faults use_of.Read (path ▸ 1 ▸ 0) a ⊕ at_node u path (applied parts text a)
+  faults u path (component a text) = faults use_of.Read (path ▸ 0) a ⊕ at_node u path (component a text)
   faults u path other = at_node u path other

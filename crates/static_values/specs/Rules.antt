@@ -81,6 +81,7 @@ base_type class.Enumeration id = base.Enumeration id
 base_type class.Truth id = base.Truth
 base_type (class.Array index) id = base.Composite id
 base_type class.Record id = base.Composite id
+base_type class.Private id = base.Composite id
 base_type class.Unknown id = base.Unjudged
 
 -- the subtype that a mark stands for, and its type
@@ -130,6 +131,7 @@ abbrev pub meant : Named → Meaning
 meant (named.Object s c) = whole (base_type c s.base)
 meant (named.Static s c v) = static (base_type c s.base) v
 meant (named.Number v) = static base.Universal v
+meant (named.Part b) = whole b
 meant _ = unknown
 
 -- a type or an exception is no expression
@@ -248,6 +250,7 @@ bounds_of_class class.Enumeration s = bounds (base.Enumeration s.base) s.low s.h
 bounds_of_class (class.Array index) s = bounds index.base index.low index.high
 bounds_of_class class.Truth s = without
 bounds_of_class class.Record s = without
+bounds_of_class class.Private s = without
 bounds_of_class class.Unknown s = unjudged
 
 -- of an object, an array's alone
@@ -343,8 +346,11 @@ misses (use_of.Initial s b) m = fits m.base b && is_outside s m.value
 misses (use_of.Stored s b) m = fits m.base b && is_outside s m.value
 misses _ m = false
 
+abbrev pub is_not_static : Use → Meaning → Bool
+is_not_static u m = must_be_static u && is_none m.value && not m.overflows
+
+abbrev pub has_bad_value : Use → Meaning → Bool
+has_bad_value u m = m.overflows || misses u m
+
 abbrev pub use_rows : Use → Meaning → Rows
-use_rows u m =
-    (code.F10, must_be_static u && is_none m.value && not m.overflows)
-    ∷ (code.F11, m.overflows || misses u m)
-    ∷ []
+use_rows u m = (code.F10, is_not_static u m) ∷ (code.F11, has_bad_value u m) ∷ []

@@ -22,7 +22,9 @@ pub data Expr : Type 0 where
   attribute : Parts → (text : List ℕ) → Expr
   -- T'POS(E): a prefix, an attribute and its one argument
   applied : Parts → (text : List ℕ) → Expr → Expr
-  -- a form that isn't judged here: a call, a conversion, an index, a component of more than a name, a membership, an aggregate
+  -- E.A: a component of what is more than a name
+  component : Expr → (text : List ℕ) → Expr
+  -- a form that isn't judged here: a call, a conversion, an index, a membership, an aggregate
   other : Expr
 
 -- what is read off a node
@@ -45,9 +47,9 @@ parts_by kind.Name text kids = text ∷ []
 parts_by kind.Select text kids = select_parts text kids
 parts_by _ text kids = []
 
-abbrev pub name_by : Parts → Expr
-name_by [] = other
-name_by (p ∷ ps) = name (p ∷ ps)
+abbrev pub select_by : List ℕ → List Seen → Expr
+select_by text (p ∷ []) = if is_kind p.kind kind.Name then name (p.text ∷ text ∷ []) else component p.expr text
+select_by text _ = other
 
 -- Unary = <op> expr
 abbrev pub unary_with : Operator → List Seen → Expr
@@ -84,7 +86,7 @@ applied_by _ = other
 abbrev pub expr_by : Kind → List ℕ → List Seen → Expr
 expr_by kind.Int text kids = int text
 expr_by kind.Name text kids = name (text ∷ [])
-expr_by kind.Select text kids = name_by (select_parts text kids)
+expr_by kind.Select text kids = select_by text kids
 expr_by kind.Unary text kids = unary_by (entry_of kind.Unary text) kids
 expr_by kind.Binary text kids = binary_by (entry_of kind.Binary text) kids
 expr_by kind.Attr text kids = attribute_by text kids

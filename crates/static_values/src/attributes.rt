@@ -30,7 +30,7 @@ fn of_class(class: Class, subtype: Subtype) -> Range
             )
         }
         Class::Array(index) => Range::Bounds(index.base, index.low, index.high),
-        Class::Truth | Class::Record => Range::Without,
+        Class::Truth | Class::Record | Class::Private => Range::Without,
         Class::Unknown => Range::Unjudged,
     }
 }

@@ -1,6 +1,6 @@
 // What declarations declare.
 use crate::limits::{BASE_HIGH, BASE_LOW};
-use base_kit::Listed;
+use base_kit::{Listed, Text};
 
 /// The type of an expression, by the number of its declaration.
 #[derive(Clone, Copy)]
@@ -10,14 +10,15 @@ pub enum BaseType {
     Integer(u32),
     Enumeration(u32),
     Truth,
-    /// An array or a record.
+    /// An array, a record, or a private type before its full type.
     Composite(u32),
     /// It isn't judged here: that of a call, an aggregate, a part of an object, and of all that has a fault.
     Unjudged,
 }
 
 /// A subtype: the number of its type's declaration, and its entry in the list of type names. Its range is
-/// told where the type has numbers or positions, BOOLEAN's 0 .. 1 too, and is 0 .. 0 elsewhere.
+/// told where the type has numbers or positions, BOOLEAN's 0 .. 1 too, and is 0 .. 0 elsewhere. A private type
+/// before its full type has no entry, which is told as 0.
 #[derive(Clone, Copy)]
 pub struct Subtype {
     pub base: u32,
@@ -34,6 +35,13 @@ pub struct Index {
     pub high: i64,
 }
 
+/// A component of a record.
+#[derive(Drop)]
+pub struct Component {
+    pub name: Text,
+    pub subtype: Subtype,
+}
+
 /// What a type is made of.
 #[derive(Drop)]
 pub enum Shape {
@@ -44,7 +52,9 @@ pub enum Shape {
     /// The indexes, and the elements.
     Array(Index, Subtype),
     /// The components in order.
-    Record(Listed<Subtype>),
+    Record(Listed<Component>),
+    /// A private type before its full type.
+    Private,
 }
 
 /// What a name declares.
@@ -55,6 +65,11 @@ pub enum Entity {
     Subtype(Subtype),
     /// A variable, or a constant that isn't static.
     Object(Subtype),
+    /// A subtype of a private type that stands before the full type, by the type's number, with its own entry. It
+    /// has all values of the type.
+    PrivateSubtype(u32, u32),
+    /// An object of a private type that stands before the full type, by the type's number.
+    PrivateObject(u32),
     /// A static constant or an enumeration literal.
     Static(Subtype, i64),
     Number(i64),
@@ -69,6 +84,8 @@ pub enum Class {
     Truth,
     Array(Index),
     Record,
+    /// Its full type isn't declared yet.
+    Private,
     /// No declaration of it is kept.
     Unknown,
 }
@@ -83,10 +100,23 @@ pub enum Named {
     Number(i64),
     /// What has no value, as an exception.
     Valueless,
-    /// A part of an object.
-    Part,
+    /// A component of an object, and its type.
+    Part(BaseType),
     /// What isn't kept, as a package or a subprogram.
     Unkept,
+}
+
+/// What a name after the dot behind a value selects.
+#[derive(Clone, Copy)]
+pub enum Selected {
+    /// A component, by its type.
+    Component(BaseType),
+    /// The value's record has no such component.
+    Missing,
+    /// The value is no record.
+    NoRecord,
+    /// The value isn't judged here.
+    Unjudged,
 }
 
 // INTEGER, NATURAL, POSITIVE and BOOLEAN, whose entries are the first four of the list of type names.

@@ -21,17 +21,21 @@ pub enum ExprForm<'a> {
     Attribute(&'a Node, &'a Text),
     /// The prefix, the attribute and its argument.
     Applied(&'a Node, &'a Text, &'a Node),
+    /// What is more than a name, and the component.
+    Component(&'a Node, &'a Text),
     Other,
 }
 
 #[tactic(auto, using(crate::proofs::Seen::seen_kind, crate::proofs::Seen::seen_text))]
 fn select_form(node: &Node) -> ExprForm<'_>
     requires { kind_of node.now ≡ Kind.Select }
-    ensures form { expr_in result ≡ syntax.name_by (syntax.select_parts (text_of node.now) (map syntax.seen (kids_of node.now))) }
+    ensures form { expr_in result
+        ≡ syntax.select_by (text_of node.now) (map syntax.seen (kids_of node.now)) }
     ensures below { Below node.now result }
 {
     match node.kids.as_slice() {
         [prefix] if prefix.kind == Kind::Name => ExprForm::Name(node),
+        [prefix] => ExprForm::Component(prefix, &node.text),
         _ => ExprForm::Other,
     }
 }
@@ -47,7 +51,9 @@ fn unary_with(operator: Operator, node: &Node) -> ExprForm<'_>
 }
 
 fn unary_form(node: &Node) -> ExprForm<'_>
-    ensures form { expr_in result ≡ syntax.unary_by (entry_of Kind.Unary (text_of node.now)) (map syntax.seen (kids_of node.now)) }
+    ensures form { expr_in result
+        ≡ syntax.unary_by (entry_of Kind.Unary (text_of node.now))
+        (map syntax.seen (kids_of node.now)) }
     ensures below { Below node.now result }
 {
     match OperatorEntry::of(Kind::Unary, node.text.as_bytes()) {
@@ -67,7 +73,9 @@ fn binary_with(operator: Operator, node: &Node) -> ExprForm<'_>
 }
 
 fn binary_form(node: &Node) -> ExprForm<'_>
-    ensures form { expr_in result ≡ syntax.binary_by (entry_of Kind.Binary (text_of node.now)) (map syntax.seen (kids_of node.now)) }
+    ensures form { expr_in result
+        ≡ syntax.binary_by (entry_of Kind.Binary (text_of node.now))
+        (map syntax.seen (kids_of node.now)) }
     ensures below { Below node.now result }
 {
     match OperatorEntry::of(Kind::Binary, node.text.as_bytes()) {
@@ -78,7 +86,8 @@ fn binary_form(node: &Node) -> ExprForm<'_>
 
 #[tactic(auto, using(crate::proofs::Seen::seen_parts))]
 fn attribute_form(node: &Node) -> ExprForm<'_>
-    ensures form { expr_in result ≡ syntax.attribute_by (text_of node.now) (map syntax.seen (kids_of node.now)) }
+    ensures form { expr_in result
+        ≡ syntax.attribute_by (text_of node.now) (map syntax.seen (kids_of node.now)) }
     ensures below { Below node.now result }
 {
     match node.kids.as_slice() {

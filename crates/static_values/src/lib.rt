@@ -3,6 +3,7 @@
 
 mod attribute;
 mod attributes;
+mod components;
 mod dividing;
 mod entity;
 mod expressions;
@@ -14,7 +15,7 @@ mod naming;
 mod rules;
 mod values;
 
-pub use entity::{BaseType, Class, Entity, Index, Named, Shape, Subtype};
+pub use entity::{BaseType, Class, Component, Entity, Index, Named, Shape, Subtype};
 pub use expressions::expression;
 pub use judging::ask;
 pub use limits::{BASE_HIGH, BASE_LOW};

@@ -4,16 +4,18 @@ ghost use Rattle.std.specs.Option.{option_copied};
 ghost use Rattle.std.specs.Map.{lookup};
 ghost use Rattle.indexmap.specs.IndexMap.{insert_entry};
 ghost use Rattle.ada_tree.specs.Sights.{parts_of};
+ghost use Rattle.ada_tree.specs.Nodes.{text_of};
 ghost use Rattle.base_kit.specs.declared.fault.Code.TheVariants as code;
 ghost use Rattle.static_values.specs.Judging.{Gives, asks};
 ghost use Rattle.static_values.specs.Entities as spec;
 ghost use Rattle.static_values.specs.Expressions as walk;
 
-use crate::entity::{Class, Entity, Named, PREDEFINED, Shape};
+use crate::entity::{BaseType, Class, Entity, Named, PREDEFINED, Shape, Subtype};
 use crate::judging::ask;
+use crate::rules::meant;
 use ada_names::kid;
 use ada_tree::{Kind, Lookup, Node};
-use base_kit::{Code, Memory, Path, Stop};
+use base_kit::{Code, Memory, Path, Stop, Text};
 use indexmap::IndexMap;
 use std::alloc::Global;
 use std::marker::Model;
@@ -46,15 +48,7 @@ fn class_of_shape(shape: &Shape) -> Class
         Shape::Truth => Class::Truth,
         Shape::Array(index, _) => Class::Array(*index),
         Shape::Record(_) => Class::Record,
-    }
-}
-
-fn class_named(named: Named) -> Class
-    ensures { result ≡ spec.class_named named }
-{
-    match named {
-        Named::Mark(_, class) => class,
-        _ => Class::Unknown,
+        Shape::Private => Class::Private,
     }
 }
 
@@ -65,6 +59,55 @@ fn predefined(id: u32) -> Option<Named>
     match PREDEFINED.get(id as usize) {
         Some(named) => Some(*named),
         None => None,
+    }
+}
+
+// The type that is kept.
+fn mark_kept(entity: Option<&Entity>) -> Named
+    ensures { result ≡ spec.mark_kept (option_copied entity.entry) }
+{
+    match entity {
+        Some(Entity::Type(subtype, shape)) => Named::Mark(*subtype, class_of_shape(shape)),
+        _ => Named::Unkept,
+    }
+}
+
+// Whether what has a number may give it to this entity.
+fn may_take(kept: Option<&Entity>, entity: &Entity) -> bool
+    ensures { result ≡ spec.may_take (option_copied kept.entry) entity.now }
+{
+    match (kept, entity) {
+        (None, _) => true,
+        (Some(Entity::Type(_, Shape::Private)), Entity::Type(_, _)) => true,
+        _ => false,
+    }
+}
+
+impl Named {
+    // An object of all values of a type.
+    fn as_object(self) -> Named
+        ensures { result ≡ spec.as_object self }
+    {
+        match self {
+            Named::Mark(subtype, class) => Named::Object(subtype, class),
+            _ => Named::Unkept,
+        }
+    }
+
+    // A subtype of all values of a type, with an entry of its own.
+    fn as_subtype(self, number: u32) -> Named
+        ensures { result ≡ spec.as_subtype number self }
+    {
+        match self {
+            Named::Mark(subtype, class) => Named::Mark(
+                Subtype {
+                    entry: number,
+                    ..subtype
+                },
+                class,
+            ),
+            _ => Named::Unkept,
+        }
     }
 }
 
@@ -97,6 +140,7 @@ impl Entities {
         ensures { result ≡ spec.class_kept (lookup (nat_eq id) self.now) }
     {
         match self.get(id) {
+            Some(Entity::Type(_, Shape::Private)) => Class::Unknown,
             Some(Entity::Type(_, shape)) => class_of_shape(shape),
             _ => Class::Unknown,
         }
@@ -107,9 +151,26 @@ impl Entities {
         ensures { result ≡ spec.class_of self.now id }
     {
         match predefined(id) {
-            Some(named) => class_named(named),
+            Some(named) => named.class(),
             None => self.kept_class(id),
         }
+    }
+
+    // The type of this number.
+    fn type_named(&self, id: u32) -> Named
+        ensures { result ≡ spec.mark_of self.now id }
+    {
+        match predefined(id) {
+            Some(named) => named,
+            None => mark_kept(self.get(id)),
+        }
+    }
+
+    /// Whether it can be kept under this number: nothing is, or it is the full type of what is.
+    pub fn is_new(&self, id: u32, entity: &Entity) -> bool
+        ensures { result ≡ spec.is_new self.now id entity.now }
+    {
+        predefined(id).is_none() && may_take(self.get(id), entity)
     }
 
     fn kept(&self, entity: Option<&Entity>) -> Named
@@ -119,6 +180,8 @@ impl Entities {
             Some(Entity::Type(subtype, shape)) => Named::Mark(*subtype, class_of_shape(shape)),
             Some(Entity::Subtype(subtype)) => Named::Mark(*subtype, self.class(subtype.base)),
             Some(Entity::Object(subtype)) => Named::Object(*subtype, self.class(subtype.base)),
+            Some(Entity::PrivateSubtype(id, number)) => self.type_named(*id).as_subtype(*number),
+            Some(Entity::PrivateObject(id)) => self.type_named(*id).as_object(),
             Some(Entity::Static(subtype, value)) => {
                 Named::Static(*subtype, self.class(subtype.base), *value)
             }
@@ -166,10 +229,41 @@ pub fn seen<N: Lookup>(
     at: &Path,
     name: &Node,
 ) -> Result<Named, Stop>
-    ensures { Gives (walk.sight_faults (N.sight names.now (parts_of name.now) at.now) at.now) (spec.stands_for entities.now (N.sight names.now (parts_of name.now) at.now)) result }
+    ensures { Gives
+        (walk.sight_faults (N.sight names.now (parts_of name.now) at.now) at.now)
+        (spec.stands_for entities.now (N.sight names.now (parts_of name.now) at.now))
+        result }
 {
     let id = names.find(name, at)?;
     Ok(entities.named(id.0))
+}
+
+// A component of the object that stands before the dot.
+#[tactic(auto, using(crate::proofs::Firsts::first_stays, crate::proofs::Firsts::first_after), unfolding(crate::specs::Expressions::part_faults))]
+fn part(
+    alloc: Global,
+    entities: &Entities,
+    at: &Path,
+    prefix: Named,
+    text: &Text,
+) -> Result<Named, Stop>
+    ensures { Gives
+        (walk.part_faults entities.now at.now text.now prefix)
+        (walk.part entities.now text.now prefix)
+        result }
+{
+    let below = kid(alloc, at, 0)?;
+    ask(alloc, &below, &[(Code::F08, !prefix.is_object())])?;
+    let selected = entities.selected(meant(prefix).base, text.as_bytes());
+    ask(
+        alloc,
+        at,
+        &[
+            (Code::F08, selected.is_missing()),
+            (Code::F09, selected.is_no_record()),
+        ],
+    )?;
+    Ok(Named::Part(selected.base_type()))
 }
 
 // What stands after a dot.
@@ -181,17 +275,17 @@ fn after_dot<N: Lookup>(
     prefix: Named,
     name: &Node,
 ) -> Result<Named, Stop>
-    ensures { Gives (walk.after_dot (spec.world (N.sight names.now) entities.now) at.now (parts_of name.now) prefix) (walk.shown_after (spec.world (N.sight names.now) entities.now) at.now (parts_of name.now) prefix) result }
+    ensures { Gives
+        (walk.after_dot (spec.world (N.sight names.now) entities.now) at.now
+        (parts_of name.now) (text_of name.now) prefix)
+        (walk.shown_after (spec.world (N.sight names.now) entities.now) at.now
+        (parts_of name.now) (text_of name.now) prefix)
+        result }
 {
     if prefix.is_unkept() {
         return seen(names, entities, at, name);
     }
-    ask(
-        alloc,
-        &kid(alloc, at, 0)?,
-        &[(Code::F08, !prefix.is_object())],
-    )?;
-    Ok(Named::Part)
+    part(alloc, entities, at, prefix, &name.text)
 }
 
 #[tactic(auto, using(crate::proofs::Firsts::first_stays, crate::proofs::Firsts::first_after))]
@@ -203,7 +297,12 @@ fn selected<N: Lookup>(
     prefix: &Node,
     name: &Node,
 ) -> Result<Named, Stop>
-    ensures { Gives (walk.select_faults (spec.world (N.sight names.now) entities.now) at.now (parts_of prefix.now) (parts_of name.now)) (walk.select_denoted (spec.world (N.sight names.now) entities.now) at.now (parts_of prefix.now) (parts_of name.now)) result }
+    ensures { Gives
+        (walk.select_faults (spec.world (N.sight names.now) entities.now) at.now
+        (parts_of prefix.now) (parts_of name.now) (text_of name.now))
+        (walk.select_denoted (spec.world (N.sight names.now) entities.now) at.now
+        (parts_of prefix.now) (parts_of name.now) (text_of name.now))
+        result }
 {
     let before = seen(names, entities, &kid(alloc, at, 0)?, prefix)?;
     after_dot(alloc, names, entities, at, before, name)
@@ -217,7 +316,11 @@ pub fn denoted<N: Lookup>(
     at: &Path,
     name: &Node,
 ) -> Result<Named, Stop>
-    ensures { Gives (walk.name_faults (spec.world (N.sight names.now) entities.now) at.now (parts_of name.now)) (walk.denoted (spec.world (N.sight names.now) entities.now) at.now (parts_of name.now)) result }
+    ensures { Gives
+        (walk.name_faults (spec.world (N.sight names.now) entities.now) at.now
+        (parts_of name.now))
+        (walk.denoted (spec.world (N.sight names.now) entities.now) at.now (parts_of name.now))
+        result }
 {
     match name.kind {
         Kind::Name => seen(names, entities, at, name),
@@ -225,10 +328,17 @@ pub fn denoted<N: Lookup>(
             [prefix] if prefix.kind == Kind::Name => {
                 selected(alloc, names, entities, at, prefix, name)
             }
-            _ => Ok(Named::Part),
+            _ => Ok(no_name()),
         },
-        _ => Ok(Named::Part),
+        _ => Ok(no_name()),
     }
+}
+
+// What is no name.
+fn no_name() -> Named
+    ensures { result ≡ walk.no_name }
+{
+    Named::Part(BaseType::Unjudged)
 }
 
 impl Named {
@@ -251,7 +361,11 @@ fn own_mark<N: Lookup>(
     at: &Path,
     name: &Node,
 ) -> Result<Named, Stop>
-    ensures { Gives (walk.own_mark_faults (spec.world (N.sight names.now) entities.now) at.now (parts_of name.now)) (walk.stands (spec.world (N.sight names.now) entities.now) (parts_of name.now) at.now) result }
+    ensures { Gives
+        (walk.own_mark_faults (spec.world (N.sight names.now) entities.now) at.now
+        (parts_of name.now))
+        (walk.stands (spec.world (N.sight names.now) entities.now) (parts_of name.now) at.now)
+        result }
 {
     let named = seen(names, entities, at, name)?;
     ask(alloc, at, &[(Code::F08, !named.is_mark())])?;
@@ -267,7 +381,11 @@ fn package<N: Lookup>(
     at: &Path,
     name: &Node,
 ) -> Result<(), Stop>
-    ensures { Gives (walk.package_faults (spec.world (N.sight names.now) entities.now) at.now (parts_of name.now)) tt result }
+    ensures { Gives
+        (walk.package_faults (spec.world (N.sight names.now) entities.now) at.now
+        (parts_of name.now))
+        tt
+        result }
 {
     let named = seen(names, entities, at, name)?;
     ask(alloc, at, &[(Code::F08, !named.is_unkept())])
@@ -282,7 +400,11 @@ fn selected_mark<N: Lookup>(
     prefix: &Node,
     name: &Node,
 ) -> Result<Named, Stop>
-    ensures { Gives (walk.select_mark_faults (spec.world (N.sight names.now) entities.now) at.now (parts_of prefix.now) (parts_of name.now)) (walk.stands (spec.world (N.sight names.now) entities.now) (parts_of name.now) at.now) result }
+    ensures { Gives
+        (walk.select_mark_faults (spec.world (N.sight names.now) entities.now) at.now
+        (parts_of prefix.now) (parts_of name.now))
+        (walk.stands (spec.world (N.sight names.now) entities.now) (parts_of name.now) at.now)
+        result }
 {
     package(alloc, names, entities, &kid(alloc, at, 0)?, prefix)?;
     own_mark(alloc, names, entities, at, name)
@@ -290,10 +412,10 @@ fn selected_mark<N: Lookup>(
 
 // What is no name.
 fn no_mark(alloc: Global, at: &Path) -> Result<Named, Stop>
-    ensures { Gives (asks at.now ((code.F08, true) ∷ [])) Named.Part result }
+    ensures { Gives (asks at.now ((code.F08, true) ∷ [])) walk.no_name result }
 {
     ask(alloc, at, &[(Code::F08, true)])?;
-    Ok(Named::Part)
+    Ok(no_name())
 }
 
 /// What a name that must be of a type or subtype stands for.
@@ -304,7 +426,11 @@ pub fn mark<N: Lookup>(
     at: &Path,
     name: &Node,
 ) -> Result<Named, Stop>
-    ensures { Gives (walk.mark_faults (spec.world (N.sight names.now) entities.now) at.now (parts_of name.now)) (walk.marked (spec.world (N.sight names.now) entities.now) at.now (parts_of name.now)) result }
+    ensures { Gives
+        (walk.mark_faults (spec.world (N.sight names.now) entities.now) at.now
+        (parts_of name.now))
+        (walk.marked (spec.world (N.sight names.now) entities.now) at.now (parts_of name.now))
+        result }
 {
     match name.kind {
         Kind::Name => own_mark(alloc, names, entities, at, name),

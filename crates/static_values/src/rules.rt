@@ -1,6 +1,7 @@
 // The rules of expressions, one node at a time.
 ghost use Rattle.std.specs.Prelude.{◌≡◌, ◌+ℤ◌, ◌-ℤ◌, ◌*ℤ◌, neg_ℤ, min, ◌^◌, ◌-◌};
 ghost use Rattle.static_values.specs.Rules as spec;
+ghost use Rattle.static_values.specs.Entities.{is_private, class_named};
 
 use crate::dividing::arithmetic;
 use crate::entity::{BaseType, Class, Named, Subtype};
@@ -84,6 +85,15 @@ impl BaseType {
 }
 
 impl Class {
+    pub fn is_private(self) -> bool
+        ensures { result ≡ is_private self }
+    {
+        match self {
+            Class::Private => true,
+            _ => false,
+        }
+    }
+
     /// That of the type of this number.
     pub fn base_type(self, id: u32) -> BaseType
         ensures { result ≡ spec.base_type self id }
@@ -92,13 +102,23 @@ impl Class {
             Class::Integer => BaseType::Integer(id),
             Class::Enumeration => BaseType::Enumeration(id),
             Class::Truth => BaseType::Truth,
-            Class::Array(_) | Class::Record => BaseType::Composite(id),
+            Class::Array(_) | Class::Record | Class::Private => BaseType::Composite(id),
             Class::Unknown => BaseType::Unjudged,
         }
     }
 }
 
 impl Named {
+    /// What its type is.
+    pub fn class(self) -> Class
+        ensures { result ≡ class_named self }
+    {
+        match self {
+            Named::Mark(_, class) => class,
+            _ => Class::Unknown,
+        }
+    }
+
     /// The subtype that a mark stands for.
     pub fn subtype(self) -> Subtype
         ensures { result ≡ spec.subtype_of self }
@@ -199,6 +219,7 @@ pub fn meant(named: Named) -> Meaning
         Named::Object(subtype, class) => whole(class.base_type(subtype.base)),
         Named::Static(subtype, class, value) => fixed(class.base_type(subtype.base), value),
         Named::Number(value) => fixed(BaseType::Universal, value),
+        Named::Part(base) => whole(base),
         _ => unknown(),
     }
 }
@@ -328,7 +349,7 @@ pub fn binary(operator: Operator, left: &Meaning, right: &Meaning) -> Meaning
     }
 }
 
-pub fn must_be_static(usage: Use) -> bool
+fn must_be_static(usage: Use) -> bool
     ensures { result ≡ spec.must_be_static usage }
 {
     match usage {
@@ -346,7 +367,7 @@ fn is_outside(subtype: Subtype, value: Option<i64>) -> bool
     }
 }
 
-pub fn misses(usage: Use, meaning: &Meaning) -> bool
+fn misses(usage: Use, meaning: &Meaning) -> bool
     ensures { result ≡ spec.misses usage meaning.now }
 {
     match usage {
@@ -355,6 +376,20 @@ pub fn misses(usage: Use, meaning: &Meaning) -> bool
         }
         _ => false,
     }
+}
+
+/// Whether it must be static and isn't.
+pub fn is_not_static(usage: Use, meaning: &Meaning) -> bool
+    ensures { result ≡ spec.is_not_static usage meaning.now }
+{
+    must_be_static(usage) && meaning.value.is_none() && !meaning.overflows
+}
+
+/// Whether its value lies outside what its use allows.
+pub fn has_bad_value(usage: Use, meaning: &Meaning) -> bool
+    ensures { result ≡ spec.has_bad_value usage meaning.now }
+{
+    meaning.overflows || misses(usage, meaning)
 }
 
 fn number(text: &[u8]) -> u64

@@ -26,8 +26,15 @@ pub fn static_value<N: Lookup>(
     expr: &Node,
     at: &Path,
 ) -> Result<i64, Stop>
-    ensures answer { Gives (walk.faults (world (N.sight names.now) entities.now) Use.Static at.now (expr_of expr.now)) (value_of (walk.meaning (world (N.sight names.now) entities.now) at.now (expr_of expr.now))) result }
-    ensures it_is_there { IfOk result (λ v. (walk.meaning (world (N.sight names.now) entities.now) at.now (expr_of expr.now)).value ≡ Some v) }
+    ensures answer { Gives
+        (walk.faults (world (N.sight names.now) entities.now) Use.Static at.now
+        (expr_of expr.now))
+        (value_of
+        (walk.meaning (world (N.sight names.now) entities.now) at.now (expr_of expr.now)))
+        result }
+    ensures it_is_there { IfOk result (λ v.
+        (walk.meaning (world (N.sight names.now) entities.now) at.now (expr_of expr.now)).value
+        ≡ Some v) }
     ensures in_base { IfOk result (λ v. in_base v ≡ true) }
 {
     let meaning = expression(alloc, names, entities, at, Use::Static, expr)?;

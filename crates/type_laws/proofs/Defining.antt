@@ -1,5 +1,5 @@
 -- What a type definition without a fault gives lies in the ranges of its types.
-use Rattle.std.proofs.Common.{◌≡◌, ℕ, ℤ, suc, pos, ◌<◌, ◌-ℤ◌, int_le, List, [], ◌∷◌, length, true, not, ◌&&◌, Option, Some, None, refl, sym, ap, subst, ◌∙◌, nat_eq, arith, zero, ◌⊎◌, inl, inr}
+use Rattle.std.proofs.Common.{◌≡◌, ℕ, ℤ, suc, pos, ◌<◌, ◌-ℤ◌, int_le, List, [], ◌∷◌, length, true, false, not, ◌&&◌, Option, Some, None, refl, sym, ap, subst, ◌∙◌, nat_eq, arith, zero, ◌⊎◌, inl, inr}
 use Rattle.std.specs.Map.{lookup}
 use Rattle.std.proofs.lemmas.Bool.{false≢true, true≢false, and_parts, and_from, not-false, or_cases, le-leb, le-ltb, eqb-true}
 use Rattle.base_kit.specs.declared.fault.Fault.{Fault}
@@ -7,7 +7,7 @@ use Rattle.base_kit.specs.declared.fault.Code.TheVariants as code
 use Rattle.ada_tree.specs.declared.kind.Kind.{Kind}
 use Rattle.ada_tree.specs.declared.kind.Kind.TheVariants as kind
 use Rattle.ada_tree.specs.declared.node.Node.{Node}
-use Rattle.ada_tree.specs.Nodes.{kind_of, kids_of}
+use Rattle.ada_tree.specs.Nodes.{kind_of, kids_of, is_empty}
 use Rattle.ada_names.specs.Places.{◌▸◌}
 use Rattle.static_values.specs.declared.entity.BaseType.{BaseType}
 use Rattle.static_values.specs.declared.entity.BaseType.TheVariants as base
@@ -25,21 +25,22 @@ use Rattle.static_values.specs.Entities.{Declared, World, class_of, class_of_sha
 use Rattle.static_values.specs.Rules.{agree, joined, is_integer, is_discrete, is_within, in_base, base_type, bounds, bounds_of_class, value_of}
 use Rattle.ada_types.specs.declared.definitions.Limits.{Limits}
 use Rattle.ada_types.specs.declared.definitions.Defined.{Defined}
-use Rattle.ada_types.specs.Definitions.{or_integer, is_null, span_index, mark_index, array_rows, span_rows, integer_rows, nothing_defined, enumeration, enumeration_in, integers, array_in, record_in, definition_in, definition_faults, bounds_faults, bounds_of, integer_faults, span_faults, range_of_faults, index_faults, index_in, array_faults, mark_in, mark_in_faults}
-use Rattle.ada_types.specs.Declarations.{first_subtype, literals_of, members_of}
-use Rattle.type_laws.specs.Adding.{HasTwo, HasSome, BoundsStand, IndexStands, DefinitionStands}
-use Rattle.type_laws.specs.Ranges.{is_position, lies_in_type, is_known, BoundsLie, NameLies, AllLie}
+use Rattle.ada_types.specs.Definitions.{or_integer, is_null, span_index, mark_index, array_rows, span_rows, integer_rows, nothing_defined, enumeration, enumeration_faults, enumeration_in, members_of, integers, array_in, record_in, definition_in, definition_faults, bounds_faults, bounds_of, integer_faults, span_faults, range_of_faults, index_faults, index_in, array_faults, mark_in, mark_in_faults}
+use Rattle.ada_types.specs.Declarations.{first_subtype, literals_of}
+use Rattle.type_laws.specs.Ranges.{is_position, lies_in_type, ClassIsKept, BoundsLie, NameLies, AllLie}
 use Rattle.type_laws.proofs.Meant.{no_fault}
-use Rattle.type_laws.proofs.Growing.{Extends, class_at_none, bounds_grow}
+use Rattle.type_laws.proofs.Growing.{Extends, class_at_none, bounds_grow, public_class}
 use Rattle.type_laws.proofs.Marked.{LimitsLie, Fits, by_mark, marks, limits_lie}
 use Rattle.static_values.proofs.Firsts.{none_before, none_behind}
 
-shape_is_known : (sh : Shape) → is_known (class_of_shape sh) ≡ true
-shape_is_known shape.Integer = refl
-shape_is_known shape.Enumeration = refl
-shape_is_known shape.Truth = refl
-shape_is_known (shape.Array i e) = refl
-shape_is_known (shape.Record cs) = refl
+-- the class of a type that is kept
+shape_is_kept : (es : Declared) (s t : Subtype) (sh : Shape) → class_of es s.base ≡ class_kept (Some (entity.Type t sh)) → ClassIsKept es s (class_of_shape sh)
+shape_is_kept es s t shape.Integer h = inr (h, refl)
+shape_is_kept es s t shape.Enumeration h = inr (h, refl)
+shape_is_kept es s t shape.Truth h = inr (h, refl)
+shape_is_kept es s t (shape.Array i e) h = inr (h, refl)
+shape_is_kept es s t (shape.Record cs) h = inr (h, refl)
+shape_is_kept es s t shape.Private h = inl refl
 
 module _ (es : Declared) where
   abbrev IndexLies : Index → Type 0
@@ -94,13 +95,14 @@ mark_index_lies es s class.Enumeration m d = m.bounds_lie
 mark_index_lies es s class.Truth m d = absurd (false≢true d)
 mark_index_lies es s (class.Array index) m d = absurd (false≢true d)
 mark_index_lies es s class.Record m d = absurd (false≢true d)
-mark_index_lies es s class.Unknown m d = absurd (false≢true m.type_is_kept.1)
+mark_index_lies es s class.Private m d = absurd (false≢true d)
+mark_index_lies es s class.Unknown m d = absurd (false≢true (public_class es s class.Unknown m.type_is_kept refl).1)
 
 module _ (w : World) (all : AllLie w.entities) where
-  span_index_lies : (path : List ℕ) (kids : List Node) → HasTwo kids → span_faults w path kids ≡ [] → IndexLies w.entities (span_index (bounds_of w path kids))
-  span_index_lies path kids t h =
+  span_index_lies : (path : List ℕ) (kids : List Node) → span_faults w path kids ≡ [] → IndexLies w.entities (span_index (bounds_of w path kids))
+  span_index_lies path kids h =
       let l : Limits = bounds_of w path kids in
-      let k : LimitsLie w.entities l = limits_lie w all path kids t (none_before (bounds_faults w path kids) (asks path (span_rows l)) h) in
+      let k : LimitsLie w.entities l = limits_lie w all path kids (none_before (bounds_faults w path kids) (asks path (span_rows l)) h) in
       span_lies w.entities l.low.base l.high.base (value_of l.low) (value_of l.high)
       (not-false (agree l.low.base l.high.base)
       (no_fault path code.F09 (not (agree l.low.base l.high.base)) ((code.F11, is_null l) ∷ []) (none_behind (bounds_faults w path kids) (asks path (span_rows l)) h)))
@@ -112,18 +114,18 @@ module _ (w : World) (all : AllLie w.entities) where
   no_range path (a ∷ b ∷ ks) h = true≢false (no_fault path code.F08 true [] h)
 
   -- the index of an array
-  index_lies : (path : List ℕ) (d : Node) → BoundsStand (kind_of d) (kids_of d) → index_faults w path d ≡ [] → is_discrete (index_in w path d).base ≡ true → IndexLies w.entities (index_in w path d)
-  index_lies path d t h i = by (kind_of d) refl t
+  index_lies : (path : List ℕ) (d : Node) → index_faults w path d ≡ [] → is_discrete (index_in w path d).base ≡ true → IndexLies w.entities (index_in w path d)
+  index_lies path d h i = by (kind_of d) refl
     where
-      by : (k : Kind) → kind_of d ≡ k → BoundsStand k (kids_of d) → IndexLies w.entities (index_in w path d)
-      by kind.Span e t =
+      by : (k : Kind) → kind_of d ≡ k → IndexLies w.entities (index_in w path d)
+      by kind.Span e =
           let f : index_faults w path d ≡ span_faults w path (kids_of d) = rw e refl in
           let g : index_in w path d ≡ span_index (bounds_of w path (kids_of d)) = rw e refl in
-          subst (λ (x : Index). IndexLies w.entities x) (sym g) (span_index_lies path (kids_of d) t (sym f ∙ h))
-      by kind.RangeOf e t =
+          subst (λ (x : Index). IndexLies w.entities x) (sym g) (span_index_lies path (kids_of d) (sym f ∙ h))
+      by kind.RangeOf e =
           let f : index_faults w path d ≡ range_of_faults w path (kids_of d) = rw e refl in
           absurd (no_range path (kids_of d) (sym f ∙ h))
-      by _ e t =
+      by _ e =
           let f : (x : List Fault) → x ≡ mark_in_faults w path d → index_faults w path d ≡ x = λ x q. rw e (sym q) in
           let g : (x : Index) → x ≡ mark_index (mark_in w path d) → index_in w path d ≡ x = λ x q. rw e (sym q) in
           subst (λ (x : Index). IndexLies w.entities x) (sym (g (mark_index (mark_in w path d)) refl))
@@ -149,78 +151,80 @@ module _ (w : World) (all : AllLie w.entities) where
           (subst (λ (z : ℤ). int_le z z ≡ true) (sym (last_of count)) (le-leb count count (omega arith)))),
     )
 
-    of_members : (kids : List Node) → HasSome (members_of kids) → Bounded (enumeration_in kids)
-    of_members (ids ∷ []) t id number h = by (kids_of ids) refl t
+    of_members : (kids : List Node) → is_empty (members_of kids) ≡ false → Bounded (enumeration_in kids)
+    of_members kids t id number h = by (members_of kids) refl t
       where
-        by : (ls : List Node) → kids_of ids ≡ ls → HasSome ls → BoundsLie more (bounds_of_class class.Enumeration (first_subtype id number (enumeration (length (kids_of ids)))))
+        by : (ls : List Node) → members_of kids ≡ ls → is_empty ls ≡ false → BoundsLie more (bounds_of_class class.Enumeration (first_subtype id number (enumeration (length (members_of kids)))))
         by (x ∷ xs) e t =
             subst (λ (n : ℕ). BoundsLie more (bounds_of_class class.Enumeration (first_subtype id number (enumeration n)))) (sym (ap length e))
             (first_and_last (length xs) id number (subst (λ (n : ℕ). TypeIsThere id number (enumeration n)) (ap length e) h))
-        by [] e t = absurd t
-    of_members [] t id number h = tt
-    of_members (a ∷ b ∷ ks) t id number h = tt
+        by [] e t = absurd (true≢false t)
 
-    of_range : (path : List ℕ) (kids : List Node) → HasTwo kids → integer_faults w path kids ≡ [] → Bounded (integers (bounds_of w path kids))
-    of_range path kids t h id number q =
+    of_range : (path : List ℕ) (kids : List Node) → integer_faults w path kids ≡ [] → Bounded (integers (bounds_of w path kids))
+    of_range path kids h id number q =
         let l : Limits = bounds_of w path kids in
-        let k : LimitsLie w.entities l = limits_lie w all path kids t (none_before (bounds_faults w path kids) (asks path (integer_rows l)) h) in
+        let k : LimitsLie w.entities l = limits_lie w all path kids (none_before (bounds_faults w path kids) (asks path (integer_rows l)) h) in
         let o : (is_integer l.low.base && is_integer l.high.base) ≡ true =
         not-false (is_integer l.low.base && is_integer l.high.base)
         (no_fault path code.F09 (not (is_integer l.low.base && is_integer l.high.base)) ((code.F11, is_null l) ∷ []) (none_behind (bounds_faults w path kids) (asks path (integer_rows l)) h)) in
         let p : (is_integer l.low.base ≡ true) × (is_integer l.high.base ≡ true) = and_parts (is_integer l.low.base) (is_integer l.high.base) o in
         (integer_in_base w.entities l.low.base (value_of l.low) p.0 k.0, integer_in_base w.entities l.high.base (value_of l.high) p.1 k.1)
 
-    of_array : (path : List ℕ) (kids : List Node) → IndexStands kids → array_faults w path kids ≡ [] → Bounded (array_in w path kids)
-    of_array path (d ∷ m ∷ []) t h id number q =
+    of_array : (path : List ℕ) (kids : List Node) → array_faults w path kids ≡ [] → Bounded (array_in w path kids)
+    of_array path (d ∷ m ∷ []) h id number q =
         let rest : mark_in_faults w (path ▸ 1) m ⊕ asks path (array_rows (index_in w (path ▸ 0) d)) ≡ [] =
         none_behind (index_faults w (path ▸ 0) d) (mark_in_faults w (path ▸ 1) m ⊕ asks path (array_rows (index_in w (path ▸ 0) d))) h in
         let i : Index = index_in w (path ▸ 0) d in
         bounds_grow w.entities more ext (bounds i.base i.low i.high)
-        (index_lies (path ▸ 0) d t (none_before (index_faults w (path ▸ 0) d) (mark_in_faults w (path ▸ 1) m ⊕ asks path (array_rows (index_in w (path ▸ 0) d))) h)
+        (index_lies (path ▸ 0) d (none_before (index_faults w (path ▸ 0) d) (mark_in_faults w (path ▸ 1) m ⊕ asks path (array_rows (index_in w (path ▸ 0) d))) h)
         (not-false (is_discrete i.base) (no_fault path code.F09 (not (is_discrete i.base)) [] (none_behind (mark_in_faults w (path ▸ 1) m) (asks path (array_rows i)) rest))))
-    of_array path [] t h id number q = tt
-    of_array path (a ∷ []) t h id number q = tt
-    of_array path (a ∷ b ∷ c ∷ ks) t h id number q = tt
+    of_array path [] h id number q = tt
+    of_array path (a ∷ []) h id number q = tt
+    of_array path (a ∷ b ∷ c ∷ ks) h id number q = tt
 
     of_record : (path : List ℕ) (kids : List Node) → Bounded (record_in w path kids)
     of_record path (cs ∷ []) id number q = tt
     of_record path [] id number q = tt
     of_record path (a ∷ b ∷ ks) id number q = tt
 
-    pub of_definition : (path : List ℕ) (d : Node) → DefinitionStands (kind_of d) d → definition_faults w path d ≡ [] → Bounded (definition_in w path d)
-    of_definition path d t h = by (kind_of d) refl t
+    pub of_definition : (path : List ℕ) (d : Node) → definition_faults w path d ≡ [] → Bounded (definition_in w path d)
+    of_definition path d h = by (kind_of d) refl
       where
-        by : (k : Kind) → kind_of d ≡ k → DefinitionStands k d → Bounded (definition_in w path d)
-        by kind.Enum e t =
+        by : (k : Kind) → kind_of d ≡ k → Bounded (definition_in w path d)
+        by kind.Enum e =
             let g : definition_in w path d ≡ enumeration_in (kids_of d) = rw e refl in
-            let l : literals_of d ≡ members_of (kids_of d) = rw e refl in
-            subst (λ (x : Defined). Bounded x) (sym g) (of_members (kids_of d) (subst (λ (ns : List Node). HasSome ns) l t))
-        by kind.Range e t =
+            let f : definition_faults w path d ≡ enumeration_faults path (kids_of d) = rw e refl in
+            subst (λ (x : Defined). Bounded x) (sym g) (of_members (kids_of d) (no_fault path code.F08 (is_empty (members_of (kids_of d))) [] (sym f ∙ h)))
+        by kind.Range e =
             let f : definition_faults w path d ≡ integer_faults w path (kids_of d) = rw e refl in
             let g : definition_in w path d ≡ integers (bounds_of w path (kids_of d)) = rw e refl in
-            subst (λ (x : Defined). Bounded x) (sym g) (of_range path (kids_of d) t (sym f ∙ h))
-        by kind.Arr e t =
+            subst (λ (x : Defined). Bounded x) (sym g) (of_range path (kids_of d) (sym f ∙ h))
+        by kind.Arr e =
             let f : definition_faults w path d ≡ array_faults w path (kids_of d) = rw e refl in
             let g : definition_in w path d ≡ array_in w path (kids_of d) = rw e refl in
-            subst (λ (x : Defined). Bounded x) (sym g) (of_array path (kids_of d) t (sym f ∙ h))
-        by kind.Rec e t =
+            subst (λ (x : Defined). Bounded x) (sym g) (of_array path (kids_of d) (sym f ∙ h))
+        by kind.Rec e =
             let g : definition_in w path d ≡ record_in w path (kids_of d) = rw e refl in
             subst (λ (x : Defined). Bounded x) (sym g) (of_record path (kids_of d))
-        by _ e t = let g : definition_in w path d ≡ nothing_defined = rw e refl in subst (λ (x : Defined). Bounded x) (sym g) (λ id number q. tt)
+        by _ e = let g : definition_in w path d ≡ nothing_defined = rw e refl in subst (λ (x : Defined). Bounded x) (sym g) (λ id number q. tt)
 
     -- ---- the type, and its literals
 
-    class_there : (id number : ℕ) (d : Defined) → predefined id ≡ None → TypeIsThere id number d → class_of more id ≡ class_of_shape d.shape
+    class_there : (id number : ℕ) (d : Defined) → predefined id ≡ None → TypeIsThere id number d → class_of more id ≡ class_kept (Some (entity.Type (first_subtype id number d) d.shape))
     class_there id number d p q = class_at_none more id p ∙ ap class_kept q
 
     pub type_fits : (id number : ℕ) (d : Defined) → predefined id ≡ None → TypeIsThere id number d → Bounded d → Fits w all more ext (entity.Type (first_subtype id number d) d.shape)
-    type_fits id number d p q b = record { type_is_kept = (class_there id number d p q, shape_is_known d.shape); bounds_lie = b id number q; value_lies = tt }
+    type_fits id number d p q b = record {
+      type_is_kept = shape_is_kept more (first_subtype id number d) (first_subtype id number d) d.shape (class_there id number d p q);
+      bounds_lie = b id number q;
+      value_lies = tt;
+    }
 
     literal_fits : (id number count j : ℕ) → predefined id ≡ None → TypeIsThere id number (enumeration count) → j < count → Fits w all more ext (entity.Static (first_subtype id number (enumeration count)) (pos j))
     literal_fits id number count j p q h =
         let k : class_of more id ≡ class.Enumeration = class_there id number (enumeration count) p q in
         subst (λ (c : Class). NameLies more (named.Static (first_subtype id number (enumeration count)) c (pos j))) (sym k)
-        (record { type_is_kept = (k, refl); bounds_lie = tt; value_lies = subst (λ (o : Option Entity). is_position o (pos j) ≡ true) (sym q) (within count h) })
+        (record { type_is_kept = inr (k, refl); bounds_lie = tt; value_lies = subst (λ (o : Option Entity). is_position o (pos j) ≡ true) (sym q) (within count h) })
       where
         within : (n : ℕ) → j < n → is_within (pos 0) (pos n -ℤ pos 1) (pos j) ≡ true
         within (suc n) h = and_from (int_le (pos 0) (pos j)) (int_le (pos j) (pos (suc n) -ℤ pos 1)) (le-leb 0 j (omega arith)) (subst (λ (z : ℤ). int_le (pos j) z ≡ true) (sym (last_of n)) (le-leb j n (omega arith)))
@@ -230,9 +234,7 @@ module _ (w : World) (all : AllLie w.entities) where
     LiteralFits id number d j = Fits w all more ext (entity.Static (first_subtype id number d) (pos j))
 
     members_fit : (id number : ℕ) (kids : List Node) → predefined id ≡ None → TypeIsThere id number (enumeration_in kids) → (j : ℕ) → j < length (members_of kids) → LiteralFits id number (enumeration_in kids) j
-    members_fit id number (ids ∷ []) p q j h = literal_fits id number (length (kids_of ids)) j p q h
-    members_fit id number [] p q j h = absurd (omega arith)
-    members_fit id number (a ∷ b ∷ ks) p q j h = absurd (omega arith)
+    members_fit id number kids p q j h = literal_fits id number (length (members_of kids)) j p q h
 
     pub literals_fit : (path : List ℕ) (d : Node) (id number : ℕ) → predefined id ≡ None → TypeIsThere id number (definition_in w path d) → (j : ℕ) → j < length (literals_of d) → LiteralFits id number (definition_in w path d) j
     literals_fit path d id number p q j h = by (kind_of d) refl

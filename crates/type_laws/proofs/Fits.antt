@@ -1,6 +1,6 @@
 -- What an expression's meaning finds fits each of its types.
 use Rattle.std.proofs.Common.{◌≡◌, ℕ, List, Bool, true, false, Option, Some, None, refl, sym, subst}
-use Rattle.std.proofs.lemmas.Bool.{false≢true, eq-eqb}
+use Rattle.std.proofs.lemmas.Bool.{false≢true, eq-eqb, eqb-true}
 use Rattle.ada_tree.specs.declared.operator.Operator.{Operator}
 use Rattle.ada_tree.specs.declared.operator.Operator.TheVariants as op
 use Rattle.ada_names.specs.Places.{◌▸◌}
@@ -13,11 +13,12 @@ use Rattle.static_values.specs.declared.entity.Named.TheVariants as named
 use Rattle.static_values.specs.declared.meaning.Family.{Family}
 use Rattle.static_values.specs.declared.meaning.Family.TheVariants as family
 use Rattle.static_values.specs.declared.meaning.Meaning.{Meaning}
-use Rattle.static_values.specs.Syntax.{Expr, int, name, unary, binary, attribute, applied, other}
-use Rattle.static_values.specs.Entities.{World}
+use Rattle.static_values.specs.Syntax.{Expr, int, name, unary, binary, attribute, applied, component, other}
+use Rattle.static_values.specs.Entities.{Declared, World}
+use Rattle.static_values.specs.Components.{selected_of, selected_type}
 use Rattle.static_values.specs.Rules.{fits, joined, is_universal, base_type, family_of, Bounds, bounds, without, unjudged, bounds_of, attribute_of, integer, meant, unary_meaning, binary_by_family, bound_meaning, applied_by, literal}
 use Rattle.static_values.specs.Expressions.{meaning, denoted}
-use Rattle.type_laws.specs.Typed.{is_declared, Is, is_number, named_typed, unary_typed, binary_typed, attribute_typed, applied_typed, Typed}
+use Rattle.type_laws.specs.Typed.{is_declared, Is, is_number, named_typed, unary_typed, binary_typed, attribute_typed, applied_typed, component_typed, Typed}
 use Rattle.type_laws.proofs.Bases.{static_base, literal_base, static2_base, sign_base, position_base}
 
 pub fits_self : (b : BaseType) → is_declared b ≡ true → fits b b ≡ true
@@ -62,7 +63,7 @@ named_allows (named.Static s c v) t h = own (meant (named.Static s c v)).base (b
 named_allows (named.Number v) t h = universal (meant (named.Number v)).base t (static_base base.Universal v) h
 named_allows (named.Mark s c) t h = absurd h
 named_allows named.Valueless t h = absurd h
-named_allows named.Part t h = absurd h
+named_allows (named.Part b) t h = own b b t refl h
 named_allows named.Unkept t h = absurd h
 
 unary_allows : (o : Operator) (A : BaseType → Type 0) (a : Meaning) → ((t : BaseType) → A t → Allows a.base t) → (t : BaseType) → unary_typed o A t → Allows (unary_meaning o a).base t
@@ -101,8 +102,35 @@ applied_allows a (named.Object s c) A m t h = absurd h
 applied_allows a (named.Static s c v) A m t h = absurd h
 applied_allows a (named.Number v) A m t h = absurd h
 applied_allows a named.Valueless A m t h = absurd h
-applied_allows a named.Part A m t h = absurd h
+applied_allows a (named.Part b) A m t h = absurd h
 applied_allows a named.Unkept A m t h = absurd h
+
+unjudged_fits : (t : BaseType) → Allows base.Unjudged t
+unjudged_fits base.Universal = refl
+unjudged_fits (base.Integer a) = refl
+unjudged_fits (base.Enumeration a) = refl
+unjudged_fits (base.Composite a) = refl
+unjudged_fits base.Truth = refl
+unjudged_fits base.Unjudged = refl
+
+-- what fits a composite type selects what that selects, or isn't judged
+selected_allows : (es : Declared) (text : List ℕ) (b u t : BaseType) → Allows b u → Is (selected_type (selected_of es u text)) t → Allows (selected_type (selected_of es b text)) t
+selected_allows es text base.Unjudged u t f h = unjudged_fits t
+selected_allows es text (base.Composite a) (base.Composite c) t f h =
+    let e : a ≡ c = eqb-true a c f in
+    own (selected_type (selected_of es (base.Composite a) text)) (selected_type (selected_of es (base.Composite c) text)) t (rw e refl) h
+selected_allows es text base.Universal (base.Composite c) t f h = absurd (false≢true f)
+selected_allows es text (base.Integer a) (base.Composite c) t f h = absurd (false≢true f)
+selected_allows es text (base.Enumeration a) (base.Composite c) t f h = absurd (false≢true f)
+selected_allows es text base.Truth (base.Composite c) t f h = absurd (false≢true f)
+selected_allows es text b base.Universal t f h = absurd (false≢true h.0)
+selected_allows es text b (base.Integer c) t f h = absurd (false≢true h.0)
+selected_allows es text b (base.Enumeration c) t f h = absurd (false≢true h.0)
+selected_allows es text b base.Truth t f h = absurd (false≢true h.0)
+selected_allows es text b base.Unjudged t f h = absurd (false≢true h.0)
+
+component_allows : (es : Declared) (A : BaseType → Type 0) (text : List ℕ) (b t : BaseType) → ((u : BaseType) → A u → Allows b u) → component_typed es A text t → Allows (selected_type (selected_of es b text)) t
+component_allows es A text b t f h = selected_allows es text b h.0 t (f h.0 h.1.0) h.1.1
 
 module _ (w : World) where
   pub allows : (path : List ℕ) (e : Expr) (t : BaseType) → Typed w path e t → fits (meaning w path e).base t ≡ true
@@ -114,4 +142,5 @@ module _ (w : World) where
       (λ u k. allows (path ▸ 0) a u k) (λ u k. allows (path ▸ 1) b u k) t h
   allows path (attribute parts text) t h = attribute_allows (attribute_of text) (bounds_of (denoted w (path ▸ 0) parts)) t h
   allows path (applied parts text a) t h = applied_allows (attribute_of text) (denoted w (path ▸ 0 ▸ 0) parts) (Typed w (path ▸ 1 ▸ 0) a) (meaning w (path ▸ 1 ▸ 0) a) t h
+  allows path (component a text) t h = component_allows w.entities (Typed w (path ▸ 0) a) text (meaning w (path ▸ 0) a).base t (λ u k. allows (path ▸ 0) a u k) h
   allows path other t h = absurd h

@@ -4,7 +4,11 @@ use Rattle.std.specs.Prelude.{if◌then◌else◌, unwrap_or}
 use Rattle.std.specs.Map.{lookup}
 use Rattle.std.proofs.lemmas.Bool.{eq-eqb, eqb-true}
 use Rattle.indexmap.specs.IndexMap.{insert_entry, insert_all}
-use Rattle.type_laws.specs.Adding.{Each}
+
+-- this holds of each number and what is kept under it
+abbrev pub Each : {V : Type 0} → (ℕ → V → Type 0) → List (ℕ × V) → Type 0
+Each P [] = Unit {0}
+Each P (e ∷ es) = P e.0 e.1 × Each P es
 
 module _ {V : Type 0} where
   other_stays : (es : List (ℕ × V)) (k : ℕ) (v : V) (id : ℕ) → nat_eq id k ≡ false → lookup (nat_eq id) (insert_entry nat_eq es k v) ≡ lookup (nat_eq id) es

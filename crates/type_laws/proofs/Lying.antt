@@ -20,10 +20,10 @@ use Rattle.static_values.specs.declared.meaning.Meaning.{Meaning}
 use Rattle.static_values.specs.declared.meaning.Use.{Use}
 use Rattle.static_values.specs.declared.meaning.Use.TheVariants as use_of
 use Rattle.static_values.specs.Judging.{◌⊕◌}
-use Rattle.static_values.specs.Syntax.{Parts, Expr, int, name, unary, binary, attribute, applied, other}
+use Rattle.static_values.specs.Syntax.{Parts, Expr, int, name, unary, binary, attribute, applied, component, other}
 use Rattle.static_values.specs.Entities.{Declared, World, stands_for}
 use Rattle.static_values.specs.Rules.{agree, joined, is_universal, is_integer, takes1, takes2, base_type, family_of, Bounds, bounds, without, unjudged, bounds_of, attribute_of, integer, whole, unknown, overflow, static, static1, static2, computed1, computed2, divides, in_base, meant, unary_meaning, binary_by_family, bound_meaning, applied_by, taken, position, number_of, use_rows}
-use Rattle.static_values.specs.Expressions.{meaning, denoted, stands, shown_after, is_unkept, faults, at_node}
+use Rattle.static_values.specs.Expressions.{meaning, denoted, stands, part, shown_after, is_unkept, faults, at_node}
 use Rattle.static_values.proofs.Firsts.{none_before, none_behind}
 use Rattle.type_laws.specs.Ranges.{lies_in_type, NameLies, BoundsLie, AllLie}
 use Rattle.type_laws.proofs.Meant.{no_fault}
@@ -96,7 +96,7 @@ module _ (es : Declared) where
   of_named (named.Object s c) k = of_none (whole (base_type c s.base)) refl
   of_named (named.Mark s c) k = of_none unknown refl
   of_named named.Valueless k = of_none unknown refl
-  of_named named.Part k = of_none unknown refl
+  of_named (named.Part b) k = of_none (whole b) refl
   of_named named.Unkept k = of_none unknown refl
 
   of_bound : (a : Option Attribute) (b : Bounds) → BoundsLie es b → Lies (bound_meaning a b)
@@ -129,17 +129,17 @@ module _ (w : World) (all : AllLie w.entities) where
   seen_lies nothing = (record { type_is_kept = tt; bounds_lie = tt; value_lies = tt })
   seen_lies two = (record { type_is_kept = tt; bounds_lie = tt; value_lies = tt })
 
-  shown_lies : (path : List ℕ) (parts : Parts) (before : Named) → NameLies w.entities (shown_after w path parts before)
-  shown_lies path parts before = by (is_unkept before)
+  shown_lies : (path : List ℕ) (parts : Parts) (text : List ℕ) (before : Named) → NameLies w.entities (shown_after w path parts text before)
+  shown_lies path parts text before = by (is_unkept before)
     where
-      by : (t : Bool) → NameLies w.entities (if t then stands w parts path else named.Part)
+      by : (t : Bool) → NameLies w.entities (if t then stands w parts path else part w.entities text before)
       by true = seen_lies (w.sees parts path)
       by false = (record { type_is_kept = tt; bounds_lie = tt; value_lies = tt })
 
   pub name_lies : (path : List ℕ) (parts : Parts) → NameLies w.entities (denoted w path parts)
   name_lies path [] = (record { type_is_kept = tt; bounds_lie = tt; value_lies = tt })
   name_lies path (x ∷ []) = seen_lies (w.sees (x ∷ []) path)
-  name_lies path (p ∷ x ∷ []) = shown_lies path (p ∷ x ∷ []) (stands w (p ∷ []) (path ▸ 0))
+  name_lies path (p ∷ x ∷ []) = shown_lies path (p ∷ x ∷ []) x (stands w (p ∷ []) (path ▸ 0))
   name_lies path (p ∷ x ∷ y ∷ ys) = (record { type_is_kept = tt; bounds_lie = tt; value_lies = tt })
 
   pub lies : (u : Use) (path : List ℕ) (e : Expr) → faults w u path e ≡ [] → Lies w.entities (meaning w path e)
@@ -162,4 +162,5 @@ module _ (w : World) (all : AllLie w.entities) where
       (lies use_of.Read (path ▸ 0) a left) (lies use_of.Read (path ▸ 1) b right)
   lies u path (attribute parts text) h = of_bound w.entities (attribute_of text) (bounds_of (denoted w (path ▸ 0) parts)) (name_lies (path ▸ 0) parts).bounds_lie
   lies u path (applied parts text a) h = of_applied w.entities (attribute_of text) (denoted w (path ▸ 0 ▸ 0) parts) (meaning w (path ▸ 1 ▸ 0) a)
+  lies u path (component a text) h = of_none w.entities (meaning w path (component a text)) refl
   lies u path other h = of_none w.entities unknown refl

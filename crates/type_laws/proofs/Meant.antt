@@ -21,13 +21,16 @@ use Rattle.static_values.specs.declared.meaning.Meaning.{Meaning}
 use Rattle.static_values.specs.declared.meaning.Use.{Use}
 use Rattle.static_values.specs.declared.meaning.Use.TheVariants as use_of
 use Rattle.static_values.specs.Judging.{Rows, asks, ◌⊕◌}
-use Rattle.static_values.specs.Syntax.{Parts, Expr, int, name, unary, binary, attribute, applied, other}
-use Rattle.static_values.specs.Entities.{World}
+use Rattle.static_values.specs.Syntax.{Parts, Expr, int, name, unary, binary, attribute, applied, component, other}
+use Rattle.static_values.specs.declared.entity.Selected.{Selected}
+use Rattle.static_values.specs.declared.entity.Selected.TheVariants as selected
+use Rattle.static_values.specs.Entities.{Declared, World}
+use Rattle.static_values.specs.Components.{selected_of, selected_type, selected_meaning, is_missing, is_no_record}
 use Rattle.static_values.specs.Rules.{fits, agree, joined, is_universal, is_unjudged, is_integer, is_discrete, is_truth, takes1, takes2, base_type, family_of, Bounds, bounds, without, unjudged, bounds_of, attribute_of, integer, meant, has_no_value, unary_meaning, binary_by_family, bound_meaning, lacks, has_positions, lacks_positions, taken, applied_by, literal, use_rows, prefix_rows}
 use Rattle.static_values.specs.Expressions.{meaning, denoted, faults, name_faults, prefix_faults, at_node}
 use Rattle.static_values.proofs.Firsts.{none_before, none_behind}
-use Rattle.type_laws.specs.Typed.{is_declared, Is, is_number, is_scalar, Common, named_typed, unary_typed, binary_typed, attribute_typed, applied_typed, Typed}
-use Rattle.type_laws.specs.Judged.{is_kept, has_type, takes_argument, is_judged}
+use Rattle.type_laws.specs.Typed.{is_declared, Is, is_number, is_scalar, Common, named_typed, unary_typed, binary_typed, attribute_typed, applied_typed, component_typed, Typed}
+use Rattle.type_laws.specs.Judged.{is_kept, has_type, takes_argument, is_told, is_judged}
 use Rattle.type_laws.proofs.Bases.{static_base, literal_base, static2_base, sign_base, position_base}
 use Rattle.type_laws.proofs.Fits.{fits_self, universal_fits}
 
@@ -120,7 +123,7 @@ named_meant (named.Static s c u) k v = of_own (meant (named.Static s c u)) (base
 named_meant (named.Number u) k v = of_universal (meant (named.Number u)) (named_typed (named.Number u)) (static_base base.Universal u) (λ t h. h)
 named_meant (named.Mark s c) k v = absurd (true≢false v)
 named_meant named.Valueless k v = absurd (true≢false v)
-named_meant named.Part k v = absurd (false≢true k)
+named_meant (named.Part b) k v = of_own (meant (named.Part b)) b (named_typed (named.Part b)) refl k (λ t h. h)
 named_meant named.Unkept k v = absurd (false≢true k)
 
 unary_meant : (o : Operator) (A : BaseType → Type 0) (a : Meaning) → takes1 o a.base ≡ true → Meant a A → Meant (unary_meaning o a) (unary_typed o A)
@@ -269,12 +272,13 @@ at_mark P f (named.Mark s class.Enumeration) k h = f s class.Enumeration refl re
 at_mark P f (named.Mark s class.Truth) k h = absurd (true≢false h)
 at_mark P f (named.Mark s (class.Array index)) k h = absurd (true≢false h)
 at_mark P f (named.Mark s class.Record) k h = absurd (true≢false h)
+at_mark P f (named.Mark s class.Private) k h = absurd (true≢false h)
 at_mark P f (named.Mark s class.Unknown) k h = absurd (false≢true k)
 at_mark P f (named.Object s c) k h = absurd (true≢false h)
 at_mark P f (named.Static s c v) k h = absurd (true≢false h)
 at_mark P f (named.Number v) k h = absurd (true≢false h)
 at_mark P f named.Valueless k h = absurd (true≢false h)
-at_mark P f named.Part k h = absurd (true≢false h)
+at_mark P f (named.Part b) k h = absurd (true≢false h)
 at_mark P f named.Unkept k h = absurd (false≢true k)
 
 abbrev Argued : Option Attribute → (BaseType → Type 0) → Meaning → Named → Type 0
@@ -296,6 +300,38 @@ applied_meant (Some attr.Pred) n A m r k l d =
 applied_meant (Some attr.First) n A m r k l d = absurd (false≢true r)
 applied_meant (Some attr.Last) n A m r k l d = absurd (false≢true r)
 applied_meant None n A m r k l d = absurd (true≢false l)
+
+-- ---- components
+
+-- what is selected is a component of a kept type, where it is told and has no fault
+told_type : (s : Selected) → is_told s ≡ true → is_missing s ≡ false → is_no_record s ≡ false → is_declared (selected_type s) ≡ true
+told_type (selected.Component b) k m n = k
+told_type selected.Missing k m n = absurd (true≢false m)
+told_type selected.NoRecord k m n = absurd (true≢false n)
+told_type selected.Unjudged k m n = absurd (false≢true k)
+
+-- only of a composite type
+selected_declared : (es : Declared) (text : List ℕ) (b : BaseType) → is_declared (selected_type (selected_of es b text)) ≡ true → is_declared b ≡ true
+selected_declared es text (base.Composite n) h = refl
+selected_declared es text (base.Integer n) h = refl
+selected_declared es text (base.Enumeration n) h = refl
+selected_declared es text base.Truth h = refl
+selected_declared es text base.Universal h = h
+selected_declared es text base.Unjudged h = h
+
+component_meant : (es : Declared) (A : BaseType → Type 0) (text : List ℕ) (a : Meaning) → is_told (selected_of es a.base text) ≡ true
+    → is_missing (selected_of es a.base text) ≡ false → is_no_record (selected_of es a.base text) ≡ false → Meant a A
+    → Meant (selected_meaning (selected_of es a.base text)) (component_typed es A text)
+component_meant es A text a k m n f =
+    let d : is_declared (selected_type (selected_of es a.base text)) ≡ true = told_type (selected_of es a.base text) k m n in
+    let b : is_declared a.base ≡ true = selected_declared es text a.base d in
+    of_own (selected_meaning (selected_of es a.base text)) (selected_type (selected_of es a.base text)) (component_typed es A text) refl d
+    (λ t i. (a.base, (f.1 a.base b (fits_self a.base b), i)))
+
+-- the second of two conditions that are asked and are no faults
+second : (path : List ℕ) (c d : Code) (b e : Bool) (rows : Rows) → asks path ((c, b) ∷ (d, e) ∷ rows) ≡ [] → e ≡ false
+second path c d true e rows h = cc
+second path c d false e rows h = no_fault path d e rows h
 
 -- ---- whole expressions
 
@@ -344,4 +380,14 @@ module _ (w : World) where
       (types use_of.Read (path ▸ 1 ▸ 0) a then_.1 below)
       (not-false (fits (meaning w (path ▸ 1 ▸ 0) a).base (taken (attribute_of text) n))
       (no_fault path code.F09 (not (fits (meaning w (path ▸ 1 ▸ 0) a).base (taken (attribute_of text) n))) (use_rows u (meaning w path (applied parts text a))) own))
+  types u path (component a text) j h =
+      let s : Selected = selected_of w.entities (meaning w (path ▸ 0) a).base text in
+      let below : faults w use_of.Read (path ▸ 0) a ≡ [] = none_before (faults w use_of.Read (path ▸ 0) a) (at_node w u path (component a text)) h in
+      let own : at_node w u path (component a text) ≡ [] = none_behind (faults w use_of.Read (path ▸ 0) a) (at_node w u path (component a text)) h in
+      let rows : Rows = use_rows u (meaning w path (component a text)) in
+      let both : (is_judged w (path ▸ 0) a ≡ true) × (is_told s ≡ true) = and_parts (is_judged w (path ▸ 0) a) (is_told s) j in
+      component_meant w.entities (Typed w (path ▸ 0) a) text (meaning w (path ▸ 0) a) both.1
+      (no_fault path code.F08 (is_missing s) ((code.F09, is_no_record s) ∷ rows) own)
+      (second path code.F08 code.F09 (is_missing s) (is_no_record s) rows own)
+      (types use_of.Read (path ▸ 0) a both.0 below)
   types u path other j h = absurd (false≢true j)

@@ -11,8 +11,9 @@ use Rattle.static_values.specs.declared.entity.Named.{Named}
 use Rattle.static_values.specs.declared.entity.Named.TheVariants as named
 use Rattle.static_values.specs.declared.meaning.Family.{Family}
 use Rattle.static_values.specs.declared.meaning.Family.TheVariants as family
-use Rattle.static_values.specs.Syntax.{Expr, int, name, unary, binary, attribute, applied, other}
-use Rattle.static_values.specs.Entities.{World}
+use Rattle.static_values.specs.Syntax.{Expr, int, name, unary, binary, attribute, applied, component, other}
+use Rattle.static_values.specs.Entities.{Declared, World}
+use Rattle.static_values.specs.Components.{selected_of, selected_type}
 use Rattle.static_values.specs.Rules.{base_type, family_of, Bounds, bounds, bounds_of, attribute_of, integer}
 use Rattle.static_values.specs.Expressions.{denoted}
 
@@ -52,6 +53,7 @@ abbrev pub named_typed : Named → BaseType → Type 0
 named_typed (named.Object s c) t = Is (base_type c s.base) t
 named_typed (named.Static s c v) t = Is (base_type c s.base) t
 named_typed (named.Number v) t = is_number t ≡ true
+named_typed (named.Part b) t = Is b t
 named_typed _ t = ⊥
 
 abbrev pub unary_typed : Operator → (BaseType → Type 0) → BaseType → Type 0
@@ -89,6 +91,10 @@ abbrev pub applied_typed : Option Attribute → Named → (BaseType → Type 0) 
 applied_typed a (named.Mark s c) A t = (is_scalar (base_type c s.base) ≡ true) × argument_typed a (base_type c s.base) A t
 applied_typed a _ A t = ⊥
 
+-- a component has the type that its record gives it
+abbrev pub component_typed : Declared → (BaseType → Type 0) → List ℕ → BaseType → Type 0
+component_typed es A text t = (u : BaseType) × (A u × Is (selected_type (selected_of es u text)) t)
+
 abbrev pub is_number_name : Named → Bool
 is_number_name (named.Number v) = true
 is_number_name _ = false
@@ -102,6 +108,7 @@ module _ (w : World) where
   Typed path (binary o a b) t = binary_typed (family_of o) (Typed (path ▸ 0) a) (Typed (path ▸ 1) b) t
   Typed path (attribute parts text) t = attribute_typed (attribute_of text) (bounds_of (denoted w (path ▸ 0) parts)) t
   Typed path (applied parts text a) t = applied_typed (attribute_of text) (denoted w (path ▸ 0 ▸ 0) parts) (Typed (path ▸ 1 ▸ 0) a) t
+  Typed path (component a text) t = component_typed w.entities (Typed (path ▸ 0) a) text t
   Typed path other t = ⊥
 
   -- a literal, a number, or an operator on integers over such
@@ -112,6 +119,7 @@ module _ (w : World) where
   is_literal path (binary o a b) = is_arithmetic (family_of o) && (is_literal (path ▸ 0) a && is_literal (path ▸ 1) b)
   is_literal path (attribute parts text) = false
   is_literal path (applied parts text a) = false
+  is_literal path (component a text) = false
   is_literal path other = false
 
   -- it has the integer types, and no other

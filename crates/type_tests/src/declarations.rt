@@ -20,6 +20,7 @@ const DOCUMENT: &str = "package P is
    type PAIR is record A, B : SMALL; C : VEC; end record;
    subtype TWO is PAIR;
    type HIDDEN is private;
+   subtype SHADE is HIDDEN;
    X : SMALL := 0;
    E : exception;
 private
@@ -48,6 +49,7 @@ const PLACES: &[&[u32]] = &[
     &[0, 0, 1, 0, 8],
     &[0, 0, 1, 0, 9],
     &[0, 0, 1, 0, 10],
+    &[0, 0, 1, 0, 11],
     &[0, 0, 1, 1, 0],
     &[0, 1, 1, 0, 0, 0, 0, 0, 0],
     &[0, 1, 1, 0, 0, 2, 0],
@@ -85,9 +87,10 @@ const ENTRIES: &[Entry] = &[
     ("P.WIDE", true, 0, 9, Form::Array(-2147483648, 2147483647)),
     ("P.PAIR", true, 3, 10, Form::Record(10, 3)),
     ("P.TWO", false, 0, 10, Form::Record(10, 3)),
-    // A private type has the entry of its full type alone.
-    ("P.HIDDEN", false, 0, 12, Form::Numbers(0, 7)),
-    ("P.Q.LOCAL", false, 0, 13, Form::Numbers(0, 4)),
+    // A private type has the entry of its full type alone, and its subtypes have that sort at their own places.
+    ("P.SHADE", false, 0, 13, Form::Numbers(0, 7)),
+    ("P.HIDDEN", false, 0, 13, Form::Numbers(0, 7)),
+    ("P.Q.LOCAL", false, 0, 14, Form::Numbers(0, 4)),
 ];
 
 fn form_of(sort: &Sort) -> Form {
@@ -173,14 +176,15 @@ const BEFORE: &str = "package P is
    type VEC is array (1 .. 3) of SMALL;
    N : constant := 5;
    X : SMALL := 0;
+   type HIDDEN is private;
    ";
 
 // How many declarations stand before the one that is judged.
-const EARLIER: u32 = 5;
+const EARLIER: u32 = 6;
 
 const LIST: &[u32] = &[0, 0, 1, 0];
 
-const PLACE: &[u32] = &[0, 0, 1, 0, 5];
+const PLACE: &[u32] = &[0, 0, 1, 0, 6];
 
 const BEHIND: &str = "\nend P;\n";
 
@@ -286,6 +290,16 @@ const JUDGED: &[(&str, Answer)] = &[
     ("Z : constant := X;", Err((Code::F10, &[1]))),
     ("Z : constant := TRUE;", Err((Code::F09, &[]))),
     ("E : exception;", Ok(())),
+    // A private type before its full type has no range and no bounds, and no literal is of it.
+    ("type T is private;", Ok(())),
+    ("subtype T is HIDDEN;", Ok(())),
+    ("subtype T is HIDDEN range 1 .. 2;", Err((Code::F09, &[1]))),
+    ("Z : HIDDEN;", Ok(())),
+    ("Z : constant HIDDEN := 1;", Err((Code::F09, &[]))),
+    (
+        "type T is range 0 .. HIDDEN'LAST;",
+        Err((Code::F08, &[0, 1])),
+    ),
 ];
 
 fn with_declaration(alloc: Global, declaration: &str) -> Result<Vec<u8>, Memory> {

@@ -112,3 +112,34 @@ fn types_are_sixty_four_deep_at_most(rt: HostRuntime) -> Result<(), Fail> {
     assert_eq!(rt; first_wrong_depth(rt.alloc()), None);
     Ok(())
 }
+
+// package P is A, A, .. : INTEGER := 1 + 1 + 1; end P; with so many names, each of which holds five nodes
+fn names_text(alloc: Global, names: usize) -> Result<Vec<u8>, Memory> {
+    let mut text = Vec::from_slice(alloc, b"package P is A")?;
+    for _ in 1..names {
+        text.extend_from_slice(b", A")?;
+    }
+    text.extend_from_slice(b" : INTEGER := 1 + 1 + 1; end P;")?;
+    Ok(text)
+}
+
+const NAMES: &[(usize, Option<Code>)] = &[(1, None), (4000, None), (4001, Some(Code::F11))];
+
+fn holds_so(alloc: Global, row: &(usize, Option<Code>)) -> Result<bool, Memory> {
+    match document(alloc, names_text(alloc, row.0)?.as_slice())? {
+        Some(root) => Ok(fault(alloc, &root)? == row.1),
+        None => Ok(false),
+    }
+}
+
+fn first_wrong_names(alloc: Global) -> Option<usize> {
+    NAMES
+        .iter()
+        .position(|row| holds_so(alloc, row) != Ok(true))
+}
+
+#[test]
+fn names_hold_twenty_thousand_nodes_at_most(rt: HostRuntime) -> Result<(), Fail> {
+    assert_eq!(rt; first_wrong_names(rt.alloc()), None);
+    Ok(())
+}
