@@ -1,5 +1,5 @@
-//! Tests of the public calls of the crates that are about neither texts nor terms, and of whole runs: what no
-//! clause says of them, as that each can succeed with ample memory.
+//! Tests of the public calls of the crates that are about neither texts nor terms: what no clause says of
+//! them, as that each can succeed with ample memory.
 #![tactic(auto)]
 
 #[cfg(test)]
@@ -8,7 +8,5 @@ mod attributes;
 mod bases;
 #[cfg(test)]
 mod edges;
-#[cfg(test)]
-mod runs;
 #[cfg(test)]
 mod scripts;

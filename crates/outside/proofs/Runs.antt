@@ -193,10 +193,15 @@ held_reply : (h : Option Files) (name : List ℕ) (limit : ℕ) (b : List ℕ) �
 held_reply None name limit b le e = tt
 held_reply (Some f) name limit b le e = held_at b limit le ∙ sym (ap (λ o. reply_of o limit) e)
 
--- a run that gets a file first, at each of its answers
-pub ran_held : (name : List ℕ) (limit : ℕ) (next : Reply → Plan) (b : List ℕ) (status : Status) (s s' : ShelfState) (k k' : SinkState) → CalledTimes 1 s s' → NoneFell s s' → s'.holds ≡ s.holds → length b ≤ limit → Found s.holds name b → Ran (next (held b)) status s' s' k k' → Ran (fetch name limit next) status s s' k k'
-ran_held name limit next b status s s' k k' called counts same le found r = ran_then (got name limit (held b) ∷ []) (fetch name limit next) (next (held b)) status s s' s' k k k' (next, refl, refl) (happened_got name limit (held b) s s' k called counts same (held_reply s.holds name limit b le found) (λ e. cc) (λ e. cc)) r
+-- a part of a run that gets a file
+pub went_held : (name : List ℕ) (limit : ℕ) (next : Reply → Plan) (b : List ℕ) (s s' : ShelfState) (k : SinkState) → CalledTimes 1 s s' → NoneFell s s' → s'.holds ≡ s.holds → length b ≤ limit → Found s.holds name b → Went (fetch name limit next) (next (held b)) s s' k k
+went_held name limit next b s s' k called counts same le found = record {
+  events = got name limit (held b) ∷ [];
+  leads = (next, refl, refl);
+  happened = happened_got name limit (held b) s s' k called counts same (held_reply s.holds name limit b le found) (λ e. cc) (λ e. cc);
+}
 
+-- a run that gets a file first, at each other answer
 pub ran_missing : (name : List ℕ) (limit : ℕ) (next : Reply → Plan) (status : Status) (s s' : ShelfState) (k k' : SinkState) → CalledTimes 1 s s' → NoneFell s s' → s'.holds ≡ s.holds → Rose s.absences s'.absences → NotFound s.holds name → Ran (next missing) status s' s' k k' → Ran (fetch name limit next) status s s' k k'
 ran_missing name limit next status s s' k k' called counts same rose none r = ran_then (got name limit missing ∷ []) (fetch name limit next) (next missing) status s s' s' k k k' (next, refl, refl) (happened_got name limit missing s s' k called counts same (missing_reply s.holds name limit none) (λ e. rose) (λ e. cc)) r
 

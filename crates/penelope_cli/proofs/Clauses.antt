@@ -12,7 +12,9 @@ use Rattle.outside.proofs.Endings.{ends_at_call, wrote_prefix, wrote_proper_pref
 use Rattle.outside.proofs.Events.{calls_of-append}
 use Rattle.outside.proofs.Outputs.{output_where_told, complete_where_told}
 use Rattle.penelope_cli.specs.Causes.{CalledFor}
-use Rattle.penelope_cli.specs.Commands.{command_of, plan_of, AreFaulty}
+use Rattle.penelope_cli.specs.Commands.{command_of}
+use Rattle.penelope_cli.specs.Plans.{plan_of}
+use Rattle.penelope_cli.specs.Sources.{AreFaulty}
 use Rattle.penelope_cli.specs.Promises.{Run, EndsAs, OfFiles, Asks, RanAs, HasOutput, HasWholeOutput, HasOutputWith, IsUndisturbed, planned, Keeps}
 use Rattle.penelope_cli.proofs.Codes.{same_status}
 use Rattle.penelope_cli.proofs.FirstBytes.{too_long_cause}

@@ -1,20 +1,30 @@
 -- The line for a file that is too long is written only where one was.
 use Rattle.std.proofs.Common.{◌≡◌, ℕ, List, [], ◌∷◌, ◌++◌, Bool, true, false, refl, sym, ◌∙◌, ap, subst, arith}
 use Rattle.std.specs.Prelude.{Option, Some, None, IfSome, Result, Ok, Err}
-use Rattle.std.specs.List.{flat_map}
+use Rattle.std.specs.List.{flat_map, All}
 use Rattle.std.specs.Option.{option_map_or}
+use Rattle.std.proofs.lemmas.List.Elements.{All-head, All-tail}
 use Rattle.outside.specs.declared.status.Status.{Status}
 use Rattle.outside.specs.declared.status.Status.TheVariants.{Done}
 use Rattle.outside.specs.Meaning.{ShelfState, SinkState, Rose, written_more}
-use Rattle.outside.specs.Plan.{finish, say_all, Reply, held, missing, too_long, is_too_long, too_long_line, has_reply, bytes_of, Ran}
+use Rattle.outside.specs.Plan.{Plan, finish, say_all, Reply, held, missing, too_long, is_too_long, too_long_line, has_reply, bytes_of, Ran}
 use Rattle.outside.proofs.FirstBytes.{BeginsApart, HeadApart, begins_apart}
 use Rattle.base_kit.specs.declared.fault.Fault.{Fault}
 use Rattle.ada_tree.specs.declared.node.Node.{Node}
-use Rattle.text_read.specs.Files.{file_answer}
+use Rattle.ada_tree.specs.Nodes.{kids_of}
+use Rattle.ada_tree.specs.Rendering.{file_text}
+use Rattle.file_laws.specs.Documents.{HasText, is_first_byte, begins_a_file}
+use Rattle.file_laws.proofs.Beginnings.{first_byte, spelled_file_begins}
+use Rattle.file_laws.proofs.Documents.{kids_made}
 use Rattle.one_path.specs.declared.procedure.Procedure.{Procedure}
 use Rattle.one_path.specs.Form.{form_of}
-use Rattle.penelope_cli.specs.Commands.{Command, check, procedure_report, item_report, judgement_by, judgement_of, tell, after_get, plan_for}
-use Rattle.penelope_cli.specs.Items.{Item, items_of, first_unfit}
+use Rattle.penelope_cli.specs.Commands.{Command, check, print, names_of}
+use Rattle.penelope_cli.specs.Documents.{IsDocument, document_answer}
+use Rattle.penelope_cli.specs.Fresh.{procedure_report, item_report, checked_by, texts_of, told_by, fresh}
+use Rattle.penelope_cli.specs.Items.{Item, items_in, first_unfit}
+use Rattle.penelope_cli.specs.Plans.{after_get, tell, plan_for}
+use Rattle.penelope_cli.proofs.Documents.{is_document_answer, have_texts}
+use Rattle.penelope_cli.proofs.Plans.{by_gets}
 
 -- the first byte of that line is a t; no other line begins so
 report_apart : (read : Option Procedure) (rest : List ℕ) → BeginsApart 116 (say_all rest (finish Done)) → BeginsApart 116 (say_all (option_map_or procedure_report read [] ++ rest) (finish Done))
@@ -25,22 +35,39 @@ reports_apart : (items : List Item) → BeginsApart 116 (say_all (flat_map item_
 reports_apart [] = tt
 reports_apart (item ∷ items) = report_apart (form_of item.node) (flat_map item_report items) (reports_apart items)
 
-items_apart : (unfit : Option Item) (items : List Item) → BeginsApart 116 (tell (judgement_by unfit items))
+items_apart : (unfit : Option Item) (items : List Item) → BeginsApart 116 (tell (checked_by unfit items))
 items_apart None items = reports_apart items
 items_apart (Some item) items = λ e. omega (arith, e)
 
-told_apart : (answer : Result Node Fault) → BeginsApart 116 (tell (judgement_of answer))
-told_apart (Ok file) = items_apart (first_unfit (items_of 0 file)) (items_of 0 file)
-told_apart (Err fault) = λ e. omega (arith, e)
+-- neither does the text of a file
+text_apart : (text rest : List ℕ) → begins_a_file text ≡ true → BeginsApart 116 (say_all rest (finish Done)) → BeginsApart 116 (say_all (text ++ rest) (finish Done))
+text_apart [] rest first h = h
+text_apart (b ∷ text) rest first h = λ e. let none : is_first_byte 116 ≡ true = subst (λ (c : ℕ). is_first_byte c ≡ true) e first in absurd cc
 
-get_apart : (name : List ℕ) (reply : Reply) → is_too_long reply ≡ false → BeginsApart 116 (after_get name reply)
-get_apart name (held bytes) e = told_apart (file_answer bytes)
-get_apart name missing e = λ h. omega (arith, h)
-get_apart name too_long e = cc
+texts_apart : (files : List Node) → All HasText files → BeginsApart 116 (say_all (texts_of files) (finish Done))
+texts_apart [] h = tt
+texts_apart (file ∷ files) h =
+    let own = All-head HasText file files h in
+    let first : begins_a_file (file_text (Some file)) ≡ true = first_byte (file_text (Some file)) (spelled_file_begins file own.text.reads.reading.spelling) in
+    text_apart (file_text (Some file)) (texts_of files) first (texts_apart files (All-tail HasText file files h))
+
+document_apart : (sources : List (List ℕ)) (root : Node) → IsDocument sources root → BeginsApart 116 (say_all (texts_of (kids_of root)) (finish Done))
+document_apart sources root is =
+    subst (λ (files : List Node). BeginsApart 116 (say_all (texts_of files) (finish Done))) (sym (ap kids_of is.root_is ∙ kids_made is.files)) (texts_apart is.files (have_texts sources is.files is.are_files))
+
+told_apart : (command : Command) (sources : List (List ℕ)) (answer : Result Node Fault) → document_answer sources ≡ answer → BeginsApart 116 (tell (told_by command answer))
+told_apart (check names) sources (Ok root) e = items_apart (first_unfit (items_in 0 (kids_of root))) (items_in 0 (kids_of root))
+told_apart (print names) sources (Ok root) e = document_apart sources root (((is_document_answer sources).root root).0 e)
+told_apart command sources (Err fault) e = λ f. omega (arith, f)
+
+reply_apart : (name : List ℕ) (more : List ℕ → Plan) → ((bytes : List ℕ) → BeginsApart 116 (more bytes)) → (reply : Reply) → is_too_long reply ≡ false → BeginsApart 116 (after_get name more reply)
+reply_apart name more h (held bytes) e = h bytes
+reply_apart name more h missing e = λ f. omega (arith, f)
+reply_apart name more h too_long e = cc
 
 plan_apart : (command : Option Command) → BeginsApart 116 (plan_for command)
 plan_apart None = λ e. omega (arith, e)
-plan_apart (Some (check name)) = λ reply e. get_apart name reply e
+plan_apart (Some command) = by_gets (BeginsApart 116) reply_apart (names_of command) (λ sources. tell (fresh command sources)) (λ sources. told_apart command sources (document_answer sources) refl)
 
 same_rest : (a x y : List ℕ) → a ++ x ≡ a ++ y → x ≡ y
 same_rest [] x y e = e

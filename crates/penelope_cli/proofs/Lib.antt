@@ -1,6 +1,9 @@
 pub mod Clauses
 pub mod Codes
+pub mod Documents
 pub mod FirstBytes
+pub mod Getting
 pub mod Judging
 pub mod Plans
+pub mod Printing
 pub mod Stores

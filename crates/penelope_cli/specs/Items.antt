@@ -1,5 +1,5 @@
 -- The items of files, and which of them aren't taken.
-use Rattle.std.specs.Prelude.{ℕ, suc, List, [], ◌∷◌, Bool, true, false, ◌||◌, Option, Some, None, if◌then◌else◌}
+use Rattle.std.specs.Prelude.{ℕ, suc, List, [], ◌∷◌, ◌++◌, Bool, true, false, ◌||◌, Option, Some, None, if◌then◌else◌}
 use Rattle.std.specs.Option.{is_none}
 use Rattle.base_kit.specs.declared.fault.Code.TheVariants.{F23}
 use Rattle.base_kit.specs.declared.fault.Fault.{Fault}
@@ -21,6 +21,11 @@ items_from file number (node ∷ nodes) = record { path = file ∷ number ∷ []
 -- the items of a file are the kids of its node, in order
 abbrev pub items_of : ℕ → Node → List Item
 items_of file node = items_from file 0 (kids_of node)
+
+-- the items of files, from the file of this number on
+abbrev pub items_in : ℕ → List Node → List Item
+items_in number [] = []
+items_in number (file ∷ files) = items_of number file ++ items_in (suc number) files
 
 -- The first of these items that isn't of the form, or has an item before it. The Bool says whether there is one before all of these.
 abbrev pub first_unfit_behind : Bool → List Item → Option Item

@@ -1,10 +1,16 @@
 pub mod Bindings
 pub mod Causes
 pub mod Commands
+pub mod Counting
+pub mod Documents
 pub mod Faults
+pub mod Fresh
+pub mod Gets
 pub mod Items
 pub mod Judging
 pub mod Paths
+pub mod Plans
 pub mod Promises
 pub mod Report
+pub mod Sources
 pub mod Words

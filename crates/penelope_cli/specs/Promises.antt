@@ -7,7 +7,9 @@ use Rattle.outside.specs.Statuses.{code_of, Ends}
 use Rattle.outside.specs.Plan.{Event, Ran, bytes_of, calls_of, too_long_line}
 use Rattle.outside.specs.Output.{output_of, IsOutput, IsWhole, IsPrefix, EndsAtCall}
 use Rattle.penelope_cli.specs.Causes.{CalledFor}
-use Rattle.penelope_cli.specs.Commands.{Command, command_of, plan_of, AreFaulty, AreSound}
+use Rattle.penelope_cli.specs.Commands.{Command, command_of}
+use Rattle.penelope_cli.specs.Plans.{plan_of}
+use Rattle.penelope_cli.specs.Sources.{AreFaulty, AreSound}
 
 -- ---- a run
 
@@ -81,7 +83,7 @@ pub record Keeps (run : Run) : Type 0 where
   -- 2 exactly where the words are no command, 5 and 7 apart
   pub usage : IsNone (command_of run.words) → ¬ EndsAs run SinkFailed → ¬ EndsAs run NoMemory → EndsAs run Usage
   pub usage_only : EndsAs run Usage → IsNone (command_of run.words)
-  -- 3 exactly where the sources are too long, or of no file of the form, 4, 5 and 7 apart
+  -- 3 exactly where one of the sources is too long, or they are no document that the command takes, 4, 5 and 7 apart
   pub fault : OfFiles run (λ files. Asks run (AreFaulty files) → ¬ EndsAs run ShelfFailed → ¬ EndsAs run SinkFailed → ¬ EndsAs run NoMemory → EndsAs run SourceFault)
   pub fault_only : OfFiles run (λ files. EndsAs run SourceFault → Asks run (AreFaulty files))
   -- The line that a file is too long is written only where the shelf found one.

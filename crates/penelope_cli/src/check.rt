@@ -1,85 +1,71 @@
-// Checks one file.
-ghost use Rattle.std.specs.Prelude.{◌≡◌, ◌<◌, ◌^◌, ◌∷◌, [], length, IfOk};
+// Checks a document.
+ghost use Rattle.std.specs.Prelude.{◌≡◌, ◌<◌, ◌^◌, length, map, IfOk};
 ghost use Rattle.one_path.specs.Conditions.{Meets};
-ghost use Rattle.penelope_cli.specs.declared.check.Judgement.TheVariants.{Faulty as faulty_judgement};
-ghost use Rattle.penelope_cli.specs.Commands.{fresh, judgement_on};
+ghost use Rattle.penelope_cli.specs.declared.fresh.Outcome.TheVariants.{Faulty as faulty_outcome};
 ghost use Rattle.penelope_cli.specs.Faults.{fault_line};
-ghost use Rattle.penelope_cli.specs.Items.{items_from, unsupported_at};
-ghost use Rattle.penelope_cli.specs.Judging.{judged_before};
+ghost use Rattle.penelope_cli.specs.Fresh.{checked};
+ghost use Rattle.penelope_cli.specs.Items.{items_in, unsupported_at};
+ghost use Rattle.penelope_cli.specs.Judging.{placed, judged_before};
 
-use crate::fault::{fault_line, in_file};
+use crate::fault::fault_line;
+use crate::fresh::Outcome;
+use crate::items::{Item, items};
 use crate::obligations::obligations;
 use crate::report::report;
 use ada_tree::Node;
-use base_kit::{Code, Fault, Memory, Path, Place, Stop, Text};
+use base_kit::{Code, Fault, Memory, Path, Place, Text};
 use one_path::{Procedure, form_of};
 use std::alloc::Global;
-use text_read::read_file;
 
-/// What is printed for a file: its report, or the line of its fault.
-#[derive(Drop)]
-pub enum Judgement {
-    Report(Text),
-    Faulty(Text),
-}
-
-fn faulty(alloc: Global, fault: &Fault) -> Result<Judgement, Memory>
-    ensures { IfOk result (λ judgement. judgement ≡ faulty_judgement (fault_line fault.now)) }
-{
-    Ok(Judgement::Faulty(fault_line(alloc, fault)?))
-}
-
-// The item of this number, in the first file, isn't taken.
-fn unsupported(alloc: Global, item: u32) -> Result<Judgement, Memory>
-    ensures { IfOk result (λ judgement. judgement ≡ faulty_judgement (fault_line (unsupported_at (0 ∷ item ∷ [])))) }
+// The item isn't taken.
+fn unsupported(alloc: Global, item: Item<'_>) -> Result<Outcome, Memory>
+    ensures { IfOk result (λ outcome. outcome ≡ faulty_outcome (fault_line (unsupported_at (placed item.entry).path))) }
 {
     let mut path = Vec::new(alloc);
-    path.push(0)?;
-    path.push(item)?;
+    path.push(item.file)?;
+    path.push(item.number)?;
     let fault = Fault {
         code: Code::F23,
         place: Place::At(Path(path)),
         count: 0,
     };
-    faulty(alloc, &fault)
+    Ok(Outcome::Faulty(fault_line(alloc, &fault)?))
 }
 
 // The first item is this procedure, which is taken where no items are behind it.
-fn judge_before(alloc: Global, unit: &Procedure, behind: &[Node]) -> Result<Judgement, Memory>
+fn judge_before(alloc: Global, unit: &Procedure, behind: &[Item<'_>]) -> Result<Outcome, Memory>
     requires { Meets unit.now }
-    ensures { IfOk result (λ judgement. judgement ≡ judged_before unit.now behind.now) }
+    ensures { IfOk result (λ outcome. outcome ≡ judged_before unit.now behind.now) }
 {
     match behind {
         [] => {
             let obligations = obligations(alloc, unit)?;
-            Ok(Judgement::Report(report(alloc, &unit.name, &obligations)?))
+            Ok(Outcome::Text(report(alloc, &unit.name, &obligations)?))
         }
-        [_, ..] => unsupported(alloc, 1),
+        [second, ..] => unsupported(alloc, *second),
     }
 }
 
-// Checks the items of the first file: at most one is taken, and it has to be of the form.
+// Checks items: at most one is taken, and it has to be of the form.
 #[tactic(auto, using(crate::proofs::Judging::first_taken))]
-fn judge_items(alloc: Global, items: &[Node]) -> Result<Judgement, Memory>
-    ensures { IfOk result (λ judgement. judgement ≡ judgement_on (items_from 0 0 items.now)) }
+fn judge(alloc: Global, items: &[Item<'_>]) -> Result<Outcome, Memory>
+    ensures { IfOk result (λ outcome. outcome ≡ checked (map placed items.now)) }
 {
     let Some((item, behind)) = items.split_first() else {
-        return Ok(Judgement::Report(Text::from(Vec::new(alloc))));
+        return Ok(Outcome::Text(Text::from(Vec::new(alloc))));
     };
-    match form_of(alloc, item)? {
+    match form_of(alloc, item.node)? {
         Some(unit) => judge_before(alloc, &unit, behind),
-        None => unsupported(alloc, 0),
+        None => unsupported(alloc, *item),
     }
 }
 
-/// Checks the bytes of a file.
-pub fn judge(alloc: Global, bytes: &[u8]) -> Result<Judgement, Memory>
-    requires { length bytes.now < 2 ^ 32 }
-    ensures { IfOk result (λ judgement. judgement ≡ fresh bytes.now) }
+/// Checks the files of a document: the report of their units, or the fault of the first item that isn't
+/// taken.
+pub fn check(alloc: Global, files: &[Node]) -> Result<Outcome, Memory>
+    requires { length files.now < 2 ^ 32 }
+    ensures { IfOk result (λ outcome. outcome ≡ checked (items_in 0 files.now)) }
 {
-    match read_file(alloc, bytes) {
-        Ok(file) => judge_items(alloc, file.kids.as_slice()),
-        Err(Stop::Fault(fault)) => faulty(alloc, &in_file(0, fault)?),
-        Err(Stop::Memory) => Err(Memory),
-    }
+    let items = items(alloc, files)?;
+    judge(alloc, items.as_slice())
 }

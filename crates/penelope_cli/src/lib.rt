@@ -2,12 +2,17 @@
 #![tactic(auto)]
 
 mod check;
+mod document;
 mod fault;
+mod fresh;
+mod gets;
+mod items;
 mod obligations;
+mod print;
 mod report;
+mod tell;
 mod top;
 mod words;
 mod write;
 
-pub use check::Judgement;
 pub use top::penelope;
