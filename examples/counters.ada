@@ -3,7 +3,7 @@
 --| asserts for all N : INT  NEXT(N) == N + 1;
 --| implies for all N : INT  GROWS : N < NEXT(N); end trait;
 
-package Counters is  limit: constant integer := 0_9;
+package Counters is  limit: constant := 0_9;
    type count is range 0..limit;   full: exception;
 
    procedure step(c: in out count; by_two: boolean);
@@ -22,4 +22,4 @@ package body COUNTERS is
    end;
 end Counters;
 
---| proof of COUNTS.GROWS is unfold NEXT [linear (1, 1)] end proof;
+--| proof of COUNTS.GROWS is unfold NEXT [linear (1)] end proof;

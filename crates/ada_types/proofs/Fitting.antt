@@ -15,7 +15,7 @@ use Rattle.term_core.specs.Entries.{FitsParts, IsRecord}
 use Rattle.static_values.specs.declared.entity.Component.{Component}
 use Rattle.ada_types.specs.declared.declarations.Addition.{Addition}
 use Rattle.static_values.specs.Entities.{World}
-use Rattle.ada_types.specs.Definitions.{all_of, definition_in, enumeration_in, array_in, record_in, component_sort, defined_sort, part_names}
+use Rattle.type_definitions.specs.Definitions.{all_of, definition_in, enumeration_in, array_in, record_in, component_sort, defined_sort, part_names}
 use Rattle.ada_types.specs.Declarations.{MayStand, addition_of, node_addition}
 
 module _ (w : World) where

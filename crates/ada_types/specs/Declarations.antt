@@ -26,8 +26,8 @@ use Rattle.static_values.specs.declared.entity.Entity.TheVariants as entity
 use Rattle.static_values.specs.declared.meaning.Meaning.{Meaning}
 use Rattle.static_values.specs.declared.meaning.Use.{Use}
 use Rattle.static_values.specs.declared.meaning.Use.TheVariants as use_of
-use Rattle.ada_types.specs.declared.definitions.Limits.{Limits}
-use Rattle.ada_types.specs.declared.definitions.Defined.{Defined}
+use Rattle.type_definitions.specs.declared.definitions.Limits.{Limits}
+use Rattle.type_definitions.specs.declared.definitions.Defined.{Defined}
 use Rattle.ada_types.specs.declared.declarations.Declares.{Declares}
 use Rattle.ada_types.specs.declared.declarations.Declares.TheVariants as declares
 use Rattle.ada_types.specs.declared.declarations.Addition.{Addition}
@@ -39,10 +39,10 @@ use Rattle.static_values.specs.Judging.{Rows, asks, ◌⊕◌}
 use Rattle.static_values.specs.Syntax.{expr_of}
 use Rattle.static_values.specs.Entities.{Declared, World, world, class_named, is_private, is_new}
 use Rattle.static_values.specs.Rules.{is_integer, is_discrete, fits, value_of, subtype_of, type_of}
-use Rattle.ada_types.specs.Sizes.{is_too_large, sort_of}
+use Rattle.type_definitions.specs.Sizes.{is_too_large, sort_of}
 use Rattle.ada_types.specs.SortLists.{entry_of, begun, prefix_from, is_shown, is_packaged}
 use Rattle.static_values.specs.Expressions.{meaning, faults, sight_faults}
-use Rattle.ada_types.specs.Definitions.{bounds_faults, bounds_of, mark_in, mark_in_faults, definition_faults, definition_in, members_of, defined_sort, part_names, nodes_by, depth_by}
+use Rattle.type_definitions.specs.Definitions.{bounds_faults, bounds_of, mark_in, mark_in_faults, definition_faults, definition_in, members_of, defined_sort, part_names, nodes_by, depth_by}
 
 abbrev pub no_types : Types
 no_types = record { entities = []; names = [] }

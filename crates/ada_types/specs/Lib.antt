@@ -1,4 +1,2 @@
 pub mod Declarations
-pub mod Definitions
-pub mod Sizes
 pub mod SortLists

@@ -4,7 +4,7 @@ ghost use Rattle.ada_tree.specs.Nodes.{kind_of, text_of, kids_of};
 ghost use Rattle.ada_names.specs.Places.{◌▸◌};
 ghost use Rattle.static_values.specs.Judging.{asks, Gives, ◌⊕◌};
 ghost use Rattle.static_values.specs.Entities as spec;
-ghost use Rattle.ada_types.specs.Definitions as def;
+ghost use Rattle.type_definitions.specs.Definitions as def;
 ghost use Rattle.ada_types.specs.SortLists as lists;
 ghost use Rattle.ada_types.specs.Declarations as decl;
 
@@ -12,9 +12,6 @@ use crate::declarations::{
     Addition, Constrained, Declares, Initial, Spot, beside, constant, constant_initial,
     declare_ids, number, object_by, of_mark, ranged, value, variable_initial,
 };
-use crate::definitions::{Defined, definition, members};
-use crate::made_sorts::{defined_sort, is_too_large};
-use crate::sizes::{sort_of, whole};
 use crate::sort_names::{expanded, is_packaged, is_shown};
 use ada_names::kid;
 use ada_tree::{Kind, Lookup, Node};
@@ -22,6 +19,7 @@ use base_kit::{Code, Copied, Memory, Names, Path, Stop, Text};
 use static_values::{Entities, Entity, Shape, Subtype, Use, ask, expression, mark, value_of};
 use std::alloc::Global;
 use term_core::{Sort, SortEntry};
+use type_definitions::{Defined, defined_sort, definition, is_too_large, members, sort_of, whole};
 
 /// A declaration at its path in a document.
 #[derive(Clone, Copy)]

@@ -7,10 +7,9 @@ ghost use Rattle.ada_names.specs.Places.{◌▸◌};
 ghost use Rattle.static_values.specs.Judging.{asks, Gives, Leads};
 ghost use Rattle.static_values.specs.Entities as spec;
 ghost use Rattle.static_values.specs.Expressions.{sight_faults};
-ghost use Rattle.ada_types.specs.Definitions as def;
+ghost use Rattle.type_definitions.specs.Definitions as def;
 ghost use Rattle.ada_types.specs.Declarations as decl;
 
-use crate::definitions::{Limits, bounds};
 use crate::limits::MOST_HELD;
 use ada_names::kid;
 use ada_tree::{Kids, Kind, Lookup, Node};
@@ -20,6 +19,7 @@ use static_values::{
 };
 use std::alloc::Global;
 use term_core::SortEntry;
+use type_definitions::{Limits, bounds};
 
 /// The place after a declaration, from which its names are seen.
 pub fn beside(alloc: Global, at: &Path) -> Result<Path, Memory>

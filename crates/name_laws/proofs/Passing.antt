@@ -39,10 +39,6 @@ and_false true true = refl
 and_false true false = refl
 and_false false b = refl
 
-not_both : (b : Bool) → b ≡ false → b ≡ true → ⊥
-not_both true h g = cc
-not_both false h g = cc
-
 module _ (at new : List ℕ) where
   abbrev f : Entry → Entry
   f e = renamed at new e
@@ -107,7 +103,7 @@ module _ (at new : List ℕ) where
         where
           unlike : (b : Bool) → is_of s r name y ≡ b → bytes_eq y.place at ≡ false → is_of s r name y ≡ false
           unlike false test elsewhere = test
-          unlike true test elsewhere = absurd (not_both (bytes_eq x.region y.region && bytes_eq x.name y.name) (h y (head_in y ys) elsewhere) (two_are_alike s r name x y is test))
+          unlike true test elsewhere = cc (h y (head_in y ys) elsewhere, two_are_alike s r name x y is test)
 
           fails : (t : Bool) → bytes_eq y.place at ≡ t → is_of s r name (if t then record y { name = new } else y) ≡ false
           fails true there = renamed_fails s r name y fresh
@@ -160,7 +156,7 @@ module _ (at new : List ℕ) where
       where
         turned : (x : Entry) (t : Bool) → bytes_eq x.place at ≡ t → (bytes_eq x.place at ≡ true → (is_space x.space space.Withs ≡ false) × (is_space x.space space.Uses ≡ false)) → is_space x.space space.Uses ≡ true → bytes_eq x.place at ≡ false
         turned x false there h is = there
-        turned x true there h is = absurd (not_both (is_space x.space space.Uses) (h there).1 is)
+        turned x true there h is = cc ((h there).1, is)
 
         go : (xs : List Entry) → ((e : Entry) → Contains xs e → bytes_eq e.place at ≡ true → (is_space e.space space.Withs ≡ false) × (is_space e.space space.Uses ≡ false)) → UsesElsewhere at new xs
         go [] h = tt

@@ -4,10 +4,11 @@ use Rattle.std.specs.Prelude.{Result}
 use Rattle.std.specs.List.{All}
 use Rattle.std.proofs.lemmas.List.Elements.{All-nil, All-cons}
 use Rattle.base_kit.specs.declared.fault.Fault.{Fault as AFault}
-use Rattle.ada_tree.specs.declared.node.Node.{Node, Node-F, out-roll-Node}
+use Rattle.ada_tree.specs.declared.node.Node.{Node}
 use Rattle.ada_tree.specs.Nodes.{kids_of}
 use Rattle.ada_tree.specs.Fits.{Fits}
 use Rattle.file_laws.specs.Documents.{HasText, document}
+use Rattle.file_laws.proofs.Documents.{kids_made}
 use Rattle.text_read.specs.Files.{IsFaultOfFile, file_answer}
 use Rattle.text_read.proofs.Files.{is_file_answer}
 use Rattle.penelope_cli.specs.Documents.{AreFiles, is_within, too_many, IsDocument, IsFaultOfDocument, in_source, in_all, numbered, file_before, files_from, if_within, document_answer, IsDocumentAnswer}
@@ -156,14 +157,11 @@ as_many (bytes ∷ sources) (file ∷ files) (is, others) = let rest = as_many s
 pub files_fit : (sources : List (List ℕ)) (files : List Node) → ((all : List Node) → All HasText all → Fits (document all)) → files_from 0 sources ≡ Ok files → Fits (document files)
 files_fit sources files fit e = fit files (have_texts sources files (files_are 0 sources files e))
 
-kids_are : (files : List Node) → kids_of (document files) ≡ files
-kids_are files = ap (λ (layer : Node-F Node). layer.kids) (out-roll-Node _)
-
 -- and are as many as the sources
 pub as_many_read : (sources : List (List ℕ)) (root : Node) → document_answer sources ≡ Ok root → length (kids_of root) ≡ length sources
 as_many_read sources root e =
     let is = ((is_document_answer sources).root root).0 e in
-    ap (λ (r : Node). length (kids_of r)) is.root_is ∙ ap length (kids_are is.files) ∙ as_many sources is.files is.are_files
+    ap (λ (r : Node). length (kids_of r)) is.root_is ∙ ap length (kids_made is.files) ∙ as_many sources is.files is.are_files
 
 -- ---- the loop over the sources
 

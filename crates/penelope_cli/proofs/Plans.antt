@@ -1,5 +1,6 @@
 -- What the plan for the words can come to.
 use Rattle.std.proofs.Common.{◌≡◌, ◌≢◌, ◌<◌, ◌≤◌, ℕ, List, [], ◌∷◌, ◌++◌, length, Bool, true, false, cond, refl, sym, ◌∙◌, ap, subst, arith, ◌⊎◌, inl, inr}
+use Rattle.std.proofs.lemmas.Bool.{lt-ltb, ltb-true}
 use Rattle.std.proofs.lemmas.Bool.Decides.{nat_tests}
 use Rattle.std.specs.Prelude.{Option, Some, None, IsNone, IsSomeAnd, Result, Ok, Err, nat_lt}
 use Rattle.std.specs.List.{flat_map}
@@ -124,21 +125,15 @@ only_faulty_bytes command sources files stop h = only_faulty_by command sources 
 
 -- ---- the status of what gets the sources
 
-test_long : (limit n : ℕ) → nat_lt limit n ≡ true → limit < n
-test_long limit n h = grind (arith, nat_tests)
-
 test_short : (limit n : ℕ) → nat_lt limit n ≡ false → n ≤ limit
 test_short limit n h = grind (arith, nat_tests)
-
-long_test : (limit n : ℕ) → limit < n → nat_lt limit n ≡ true
-long_test limit n h = grind (arith, nat_tests)
 
 -- the reply where a file is short, and where it is too long
 held_reply : (files : Files) (name bytes : List ℕ) → files name ≡ Some bytes → length bytes ≤ MOST_BYTES → reply_of (files name) MOST_BYTES ≡ held bytes
 held_reply files name bytes e short = ap (λ (found : Option (List ℕ)). reply_of found MOST_BYTES) e ∙ ap (λ (t : Bool). cond t too_long (held bytes)) (short_of MOST_BYTES (length bytes) short)
 
 long_reply : (files : Files) (name bytes : List ℕ) → files name ≡ Some bytes → MOST_BYTES < length bytes → reply_of (files name) MOST_BYTES ≡ too_long
-long_reply files name bytes e long = ap (λ (found : Option (List ℕ)). reply_of found MOST_BYTES) e ∙ ap (λ (t : Bool). cond t too_long (held bytes)) (long_test MOST_BYTES (length bytes) long)
+long_reply files name bytes e long = ap (λ (found : Option (List ℕ)). reply_of found MOST_BYTES) e ∙ ap (λ (t : Bool). cond t too_long (held bytes)) (lt-ltb MOST_BYTES (length bytes) long)
 
 -- where no call fails
 sound_gets : (names sources : List (List ℕ)) (more : List (List ℕ) → Plan) (files : Files) → AreHeld files names sources → status_of (fetch_all names more) files None ≡ status_of (more sources) files None
@@ -216,7 +211,7 @@ by_reply : (files : Files) (name bytes : List ℕ) (names : List (List ℕ)) (mo
     → (status_of (fetch_all names (λ rest. more (bytes ∷ rest))) files stop ≡ SourceFault → IsTooLong files names ⊎ Got files names (λ rest. more (bytes ∷ rest)))
     → status_of (after_get name (λ first. fetch_all names (λ rest. more (first ∷ rest))) (cond long too_long (held bytes))) files stop ≡ SourceFault → IsTooLong files (name ∷ names) ⊎ Got files (name ∷ names) more
 by_reply files name bytes names more stop true e t behind h =
-    inl record { before = []; name = name; after = names; names_are = refl; sources = []; held = tt; bytes = bytes; found = e; long = test_long MOST_BYTES (length bytes) t }
+    inl record { before = []; name = name; after = names; names_are = refl; sources = []; held = tt; bytes = bytes; found = e; long = ltb-true MOST_BYTES (length bytes) t }
 by_reply files name bytes names more stop false e t behind h = either_behind files name bytes names more e (test_short MOST_BYTES (length bytes) t) (behind h)
 
 by_found : (files : Files) (name : List ℕ) (names : List (List ℕ)) (more : List (List ℕ) → Plan) (stop : Option ℕ) (found : Option (List ℕ)) → files name ≡ found

@@ -19,7 +19,8 @@ use std::alloc::Global;
 
 // The item isn't taken.
 fn unsupported(alloc: Global, item: Item<'_>) -> Result<Outcome, Memory>
-    ensures { IfOk result (λ outcome. outcome ≡ faulty_outcome (fault_line (unsupported_at (placed item.entry).path))) }
+    ensures { IfOk result (λ outcome. outcome
+        ≡ faulty_outcome (fault_line (unsupported_at (placed item.entry).path))) }
 {
     let mut path = Vec::new(alloc);
     path.push(item.file)?;

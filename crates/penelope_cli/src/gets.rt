@@ -19,7 +19,8 @@ fn get<S: Shelf, K: Sink>(
     shelf: &mut S,
     out: &mut K,
 ) -> Result<Text, Status>
-    ensures gets { Gets (fetch_source name.now) result (S.state shelf.old) (S.state shelf.new) (K.state out.old) (K.state out.new) }
+    ensures gets { Gets (fetch_source name.now) result (S.state shelf.old) (S.state shelf.new)
+        (K.state out.old) (K.state out.new) }
     ensures short { IfOk result (λ bytes. length bytes ≤ MOST_BYTES) }
 {
     match shelf.get(alloc, name, MOST_BYTES) {
@@ -38,7 +39,8 @@ pub fn get_all<S: Shelf, K: Sink>(
     shelf: &mut S,
     out: &mut K,
 ) -> Result<Names, Status>
-    ensures gets { Gets (fetch_all (map string_bytes names.now)) result (S.state shelf.old) (S.state shelf.new) (K.state out.old) (K.state out.new) }
+    ensures gets { Gets (fetch_all (map string_bytes names.now)) result
+        (S.state shelf.old) (S.state shelf.new) (K.state out.old) (K.state out.new) }
     ensures short { IfOk result (λ sources. All (λ bytes. length bytes ≤ MOST_BYTES) sources) }
     ensures number { IfOk result (λ sources. length sources ≡ length names.now) }
 {

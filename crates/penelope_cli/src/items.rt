@@ -17,7 +17,8 @@ pub struct Item<'a> {
 
 // Adds the items of a file.
 fn add_items<'a>(items: &mut Vec<Item<'a>>, file: u32, nodes: &'a [Node]) -> Result<(), Memory>
-    ensures { OnOk result (map placed items.new.items ≡ map placed items.old.items ++ items_from file 0 nodes.now) }
+    ensures { OnOk result (map placed items.new.items
+        ≡ map placed items.old.items ++ items_from file 0 nodes.now) }
 {
     for (number, node) in nodes.iter().enumerate() {
         let number = u32::try_from(number).map_err(|_| Memory)?;

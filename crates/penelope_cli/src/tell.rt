@@ -8,7 +8,8 @@ use outside::{Sink, SinkError, Status, write_all};
 
 // Writes bytes, or answers how the run ends.
 fn say<K: Sink>(out: &mut K, text: &[u8]) -> Result<(), Status>
-    ensures { (s : ShelfState) → Goes (say_all text.now) result s s (K.state out.old) (K.state out.new) }
+    ensures { (s : ShelfState) → Goes (say_all text.now) result s s
+        (K.state out.old) (K.state out.new) }
 {
     match write_all(out, text) {
         Ok(()) => Ok(()),
@@ -18,7 +19,8 @@ fn say<K: Sink>(out: &mut K, text: &[u8]) -> Result<(), Status>
 
 // Writes a word and a name as a line, or answers how the run ends.
 fn say_line<K: Sink>(out: &mut K, word: &str, name: &str) -> Result<(), Status>
-    ensures { (s : ShelfState) → Goes (say_all (line_of word.now name.now)) result s s (K.state out.old) (K.state out.new) }
+    ensures { (s : ShelfState) → Goes (say_all (line_of word.now name.now)) result s s
+        (K.state out.old) (K.state out.new) }
 {
     say(out, word.as_bytes())?;
     say(out, name.as_bytes())?;
@@ -28,7 +30,8 @@ fn say_line<K: Sink>(out: &mut K, word: &str, name: &str) -> Result<(), Status>
 /// Writes bytes, and then the run ends so.
 pub fn end_with<K: Sink>(out: &mut K, text: &[u8], status: Status) -> Status
     requires sink { status ≢ SinkFailed }
-    ensures { (s : ShelfState) → Ran (say_all text.now (finish status)) result s s (K.state out.old) (K.state out.new) }
+    ensures { (s : ShelfState) → Ran (say_all text.now (finish status)) result s s
+        (K.state out.old) (K.state out.new) }
 {
     match say(out, text) {
         Ok(()) => status,
@@ -39,7 +42,8 @@ pub fn end_with<K: Sink>(out: &mut K, text: &[u8], status: Status) -> Status
 /// Writes a word and a name as a line, and then the run ends so.
 pub fn end_with_line<K: Sink>(out: &mut K, word: &str, name: &str, status: Status) -> Status
     requires sink { status ≢ SinkFailed }
-    ensures { (s : ShelfState) → Ran (say_all (line_of word.now name.now) (finish status)) result s s (K.state out.old) (K.state out.new) }
+    ensures { (s : ShelfState) → Ran (say_all (line_of word.now name.now) (finish status))
+        result s s (K.state out.old) (K.state out.new) }
 {
     match say_line(out, word, name) {
         Ok(()) => status,

@@ -25,7 +25,8 @@ const USAGE: &str =
 fn tell<K: Sink>(alloc: Global, command: Command<'_>, sources: &[Text], out: &mut K) -> Status
     requires number { length sources.now < 2 ^ 32 }
     requires bytes { All (λ bytes. length bytes < 2 ^ 32) sources.now }
-    ensures { (s : ShelfState) → Ran (tell (fresh (named command.entry) sources.now)) result s s (K.state out.old) (K.state out.new) }
+    ensures { (s : ShelfState) → Ran (tell (fresh (named command.entry) sources.now)) result s s
+        (K.state out.old) (K.state out.new) }
 {
     match fresh(alloc, command, sources) {
         Ok(Outcome::Text(text)) => end_with(out, text.as_bytes(), Status::Done),
@@ -42,7 +43,8 @@ fn perform<S: Shelf, K: Sink>(
     out: &mut K,
 ) -> Status
     requires { length (names_of (named command)) ≤ MOST_SOURCES }
-    ensures { Ran (plan_of_command (named command.entry)) result (S.state shelf.old) (S.state shelf.new) (K.state out.old) (K.state out.new) }
+    ensures { Ran (plan_of_command (named command.entry)) result
+        (S.state shelf.old) (S.state shelf.new) (K.state out.old) (K.state out.new) }
 {
     match get_all(alloc, command.names(), shelf, out) {
         Ok(sources) => tell(alloc, command, sources.as_slice(), out),
@@ -52,7 +54,8 @@ fn perform<S: Shelf, K: Sink>(
 
 // Does what the words say, and answers how the run ended.
 fn obey<S: Shelf, K: Sink>(alloc: Global, words: &[String], shelf: &mut S, out: &mut K) -> Status
-    ensures { Ran (plan_of (map string_bytes words.now)) result (S.state shelf.old) (S.state shelf.new) (K.state out.old) (K.state out.new) }
+    ensures { Ran (plan_of (map string_bytes words.now)) result
+        (S.state shelf.old) (S.state shelf.new) (K.state out.old) (K.state out.new) }
 {
     match command_of(words) {
         None => end_with(out, USAGE.as_bytes(), Status::Usage),

@@ -9,49 +9,100 @@ const SMALL: &str = "procedure P (X : in out INTEGER) is begin null; end;";
 
 const CHECKED: &[Row] = &[
     // Files without items come to nothing, wherever they stand.
-    ("check e", &[("e", " -- alone")], "", 0, 1),
-    ("check e s", &[("e", "-- alone"), ("s", SET)], SET_REPORT, 0, 2),
-    ("check s e", &[("e", ""), ("s", SET)], SET_REPORT, 0, 2),
-    ("check -- e f", &[("e", ""), ("f", "")], "", 0, 2),
+    Row {
+        words: "check e",
+        files: &[("e", " -- alone")],
+        text: "",
+        status: 0,
+        calls: 1,
+    },
+    Row {
+        words: "check e s",
+        files: &[("e", "-- alone"), ("s", SET)],
+        text: SET_REPORT,
+        status: 0,
+        calls: 2,
+    },
+    Row {
+        words: "check s e",
+        files: &[("e", ""), ("s", SET)],
+        text: SET_REPORT,
+        status: 0,
+        calls: 2,
+    },
+    Row {
+        words: "check -- e f",
+        files: &[("e", ""), ("f", "")],
+        text: "",
+        status: 0,
+        calls: 2,
+    },
     // The first item that isn't of the form, or has one before it, in any file.
-    ("check s p", &[("p", SMALL), ("s", SET)], "fault F23 at 1.0\n", 3, 2),
-    (
-        "check e p s",
-        &[("e", ""), ("p", SMALL), ("s", SET)],
-        "fault F23 at 2.0\n",
-        3,
-        3,
-    ),
-    (
-        "check e q s",
-        &[("e", ""), ("q", "package Q is end;"), ("s", SET)],
-        "fault F23 at 1.0\n",
-        3,
-        3,
-    ),
-    (
-        "check e t s",
-        &[
+    Row {
+        words: "check s p",
+        files: &[("p", SMALL), ("s", SET)],
+        text: "fault F23 at 1.0\n",
+        status: 3,
+        calls: 2,
+    },
+    Row {
+        words: "check e p s",
+        files: &[("e", ""), ("p", SMALL), ("s", SET)],
+        text: "fault F23 at 2.0\n",
+        status: 3,
+        calls: 3,
+    },
+    Row {
+        words: "check e q s",
+        files: &[("e", ""), ("q", "package Q is end;"), ("s", SET)],
+        text: "fault F23 at 1.0\n",
+        status: 3,
+        calls: 3,
+    },
+    Row {
+        words: "check e t s",
+        files: &[
             ("e", ""),
-            ("t", "procedure P (X : in out INTEGER) is begin null; end; package Q is end;"),
+            (
+                "t",
+                "procedure P (X : in out INTEGER) is begin null; end; package Q is end;",
+            ),
             ("s", SET),
         ],
-        "fault F23 at 1.1\n",
-        3,
-        3,
-    ),
+        text: "fault F23 at 1.1\n",
+        status: 3,
+        calls: 3,
+    },
     // A fault of a text comes before any of items.
-    (
-        "check q b",
-        &[("q", "package Q is end;"), ("b", "\nnull")],
-        "fault F03 file 2 line 2\n",
-        3,
-        2,
-    ),
+    Row {
+        words: "check q b",
+        files: &[("q", "package Q is end;"), ("b", "\nnull")],
+        text: "fault F03 file 2 line 2\n",
+        status: 3,
+        calls: 2,
+    },
     // Sources are got in order, and the first that isn't there ends the run, before anything is read.
-    ("check a b", &[("b", "#")], "absent a\n", 4, 1),
-    ("print b a", &[("b", "#")], "absent a\n", 4, 2),
-    ("check b c a", &[("b", "#"), ("c", "")], "absent a\n", 4, 3),
+    Row {
+        words: "check a b",
+        files: &[("b", "#")],
+        text: "absent a\n",
+        status: 4,
+        calls: 1,
+    },
+    Row {
+        words: "print b a",
+        files: &[("b", "#")],
+        text: "absent a\n",
+        status: 4,
+        calls: 2,
+    },
+    Row {
+        words: "check b c a",
+        files: &[("b", "#"), ("c", "")],
+        text: "absent a\n",
+        status: 4,
+        calls: 3,
+    },
 ];
 
 // The number of the first row that is wrong.
@@ -100,8 +151,35 @@ fn files_share_the_limit_of_nodes(rt: HostRuntime) -> Result<(), Fail> {
     let alloc = rt.alloc();
     // A procedure without formals isn't of the form, nor is a second item.
     assert!(rt; two_give(alloc, "check a b", 50_000, 50_000, "fault F23 at 0.0\n", 3)?);
-    assert!(rt; two_give(alloc, "check a b", 50_000, 50_001, "fault F27 at - count 100001\n", 3)?);
-    assert!(rt; two_give(alloc, "print b a", 12, 100_001, "fault F27 at 0 count 100001\n", 3)?);
-    assert!(rt; two_give(alloc, "print a b", 12, 100_001, "fault F27 at 1 count 100001\n", 3)?);
+    assert!(rt;
+        two_give(
+            alloc,
+            "check a b",
+            50_000,
+            50_001,
+            "fault F27 at - count 100001\n",
+            3
+        )?
+    );
+    assert!(rt;
+        two_give(
+            alloc,
+            "print b a",
+            12,
+            100_001,
+            "fault F27 at 0 count 100001\n",
+            3
+        )?
+    );
+    assert!(rt;
+        two_give(
+            alloc,
+            "print a b",
+            12,
+            100_001,
+            "fault F27 at 1 count 100001\n",
+            3
+        )?
+    );
     Ok(())
 }

@@ -184,7 +184,13 @@ fn a_get_that_fails_ends_the_run(rt: HostRuntime) {
 }
 
 // A run over a file b that is too long, and one a that has a fault.
-fn long_gives(alloc: Global, words: &str, text: &str, status: u8, calls: u64) -> Result<bool, Memory> {
+fn long_gives(
+    alloc: Global,
+    words: &str,
+    text: &str,
+    status: u8,
+    calls: u64,
+) -> Result<bool, Memory> {
     let long = vec![in alloc; b' '; 4_194_305]?;
     let got = run_pair(alloc, words, b"#", long.as_slice(), &NOTHING)?;
     Ok(gives(&got, text, status) && got.calls == calls)

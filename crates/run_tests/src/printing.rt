@@ -1,5 +1,5 @@
 // What `print` prints.
-use crate::running::{Files, NOTHING, Outcome, SET, gives, run, run_files};
+use crate::running::{Files, NOTHING, SET, gives, run, run_files};
 use base_kit::Memory;
 use std::alloc::Global;
 
@@ -20,11 +20,79 @@ begin
 end SWAP;
 ";
 
+// A package with its body, a trait, a proof and comments, in loose layout.
+const COUNTERS: &str = "-- Counters that stop at a limit.
+--| trait COUNTS is introduces NEXT : INT -> INT;
+--| asserts for all N : INT  NEXT(N) == N + 1;
+--| implies for all N : INT  GROWS : N < NEXT(N); end trait;
+
+package Counters is  limit: constant := 0_9;
+   type count is range 0..limit;   full: exception;
+
+   procedure step(c: in out count; by_two: boolean);
+   --| where out by_two or C = NEXT(in C);   -- one step, or two
+   --|       raise FULL => C = LIMIT; end where;
+end;
+
+package body COUNTERS is
+   -- The counter stays as it is where it is full.
+   procedure Step(C: in out Count; By_Two: in Boolean) is
+   begin
+      if c = limit then raise full;
+      elsif by_two and then c < (limit - 1) then c := c + 2;
+      else c := ((c) + 1);    -- the last step
+      end if;
+   end;
+end Counters;
+
+--| proof of COUNTS.GROWS is unfold NEXT [linear (1)] end proof;
+";
+
+const COUNTERS_TEXT: &str = "-- Counters that stop at a limit.
+--| trait COUNTS is
+--|    introduces
+--|       NEXT : INT -> INT;
+--|    asserts for all N : INT
+--|       NEXT(N) == N + 1;
+--|    implies for all N : INT
+--|       GROWS : N < NEXT(N);
+--| end trait;
+package COUNTERS is
+   LIMIT : constant := 9;
+   type COUNT is range 0 .. LIMIT;
+   FULL : exception;
+   procedure STEP (C : in out COUNT; BY_TWO : in BOOLEAN);
+   --| where
+   --|    out BY_TWO or (C = NEXT(in C));
+   --|    raise FULL => C = LIMIT;
+   --| end where;
+   -- one step, or two
+end COUNTERS;
+package body COUNTERS is
+   -- The counter stays as it is where it is full.
+   procedure STEP (C : in out COUNT; BY_TWO : in BOOLEAN) is
+   begin
+      if C = LIMIT then
+         raise FULL;
+      elsif BY_TWO and then (C < (LIMIT - 1)) then
+         C := C + 2;
+      else
+         C := C + 1;
+         -- the last step
+      end if;
+   end STEP;
+end COUNTERS;
+--| proof of COUNTS.GROWS is
+--|    unfold NEXT [linear (1)]
+--| end proof;
+";
+
 // A text, and its canonical text.
 const TEXTS: &[(&str, &str)] = &[
     ("", ""),
     ("\t\r\n--|\n", ""),
     (SWAP, SWAP_TEXT),
+    (COUNTERS, COUNTERS_TEXT),
     (
         SET,
         "procedure SET (X, Y : in out INTEGER)\n--| where\n--|    in Y = 3;\n--|    out X = 3;\n--|    out Y = in Y;\n--| end where;\nis\nbegin\n   X := Y;\nend SET;\n",
@@ -71,7 +139,13 @@ fn files_are_printed(rt: HostRuntime) {
 }
 
 // Words, files, what is printed, the status, and how many files were got.
-pub type Row = (&'static str, Files, &'static str, u8, u64);
+pub struct Row {
+    pub words: &'static str,
+    pub files: Files,
+    pub text: &'static str,
+    pub status: u8,
+    pub calls: u64,
+}
 
 const A: &str = "procedure A is begin null; end;";
 
@@ -79,63 +153,62 @@ const B: &str = "procedure B is begin null end;";
 
 const SEVERAL: &[Row] = &[
     // One text after another, in the order of the words.
-    (
-        "print b a",
-        &[("a", A), ("b", SWAP)],
-        "procedure SWAP (A, B : in out INTEGER)\n--| where\n--|    out (A = in B) and (B = in A);\n--| end where;\nis\n   T : constant INTEGER := A;\nbegin\n   A := B;\n   B := T;\nend SWAP;\nprocedure A is\nbegin\n   null;\nend A;\n",
-        0,
-        2,
-    ),
-    (
-        "print a c a2",
-        &[("a", A), ("c", "-- alone"), ("a2", A)],
-        "procedure A is\nbegin\n   null;\nend A;\n-- alone\nprocedure A is\nbegin\n   null;\nend A;\n",
-        0,
-        3,
-    ),
+    Row {
+        words: "print b a",
+        files: &[("a", A), ("b", SWAP)],
+        text: "procedure SWAP (A, B : in out INTEGER)\n--| where\n--|    out (A = in B) and (B = in A);\n--| end where;\nis\n   T : constant INTEGER := A;\nbegin\n   A := B;\n   B := T;\nend SWAP;\nprocedure A is\nbegin\n   null;\nend A;\n",
+        status: 0,
+        calls: 2,
+    },
+    Row {
+        words: "print a c a2",
+        files: &[("a", A), ("c", "-- alone"), ("a2", A)],
+        text: "procedure A is\nbegin\n   null;\nend A;\n-- alone\nprocedure A is\nbegin\n   null;\nend A;\n",
+        status: 0,
+        calls: 3,
+    },
     // A fault has the number of its file, and nothing is printed before it; the first file's comes first.
-    (
-        "print a b",
-        &[("a", A), ("b", B)],
-        "fault F03 file 2 line 1\n",
-        3,
-        2,
-    ),
-    (
-        "print b c",
-        &[("b", B), ("c", "\n#")],
-        "fault F03 file 1 line 1\n",
-        3,
-        2,
-    ),
-    (
-        "print c b",
-        &[("b", B), ("c", "\n#")],
-        "fault F02 file 1 line 2\n",
-        3,
-        2,
-    ),
-    (
-        "print a c d",
-        &[("a", A), ("c", ""), ("d", "\n\n\u{1}")],
-        "fault F01 file 3 line 3\n",
-        3,
-        3,
-    ),
-    (
-        "print a d",
-        &[("a", A), ("d", "procedure P is begin pragma X; end P;")],
-        "fault F23 file 2 line 1\n",
-        3,
-        2,
-    ),
+    Row {
+        words: "print a b",
+        files: &[("a", A), ("b", B)],
+        text: "fault F03 file 2 line 1\n",
+        status: 3,
+        calls: 2,
+    },
+    Row {
+        words: "print b c",
+        files: &[("b", B), ("c", "\n#")],
+        text: "fault F03 file 1 line 1\n",
+        status: 3,
+        calls: 2,
+    },
+    Row {
+        words: "print c b",
+        files: &[("b", B), ("c", "\n#")],
+        text: "fault F02 file 1 line 2\n",
+        status: 3,
+        calls: 2,
+    },
+    Row {
+        words: "print a c d",
+        files: &[("a", A), ("c", ""), ("d", "\n\n\u{1}")],
+        text: "fault F01 file 3 line 3\n",
+        status: 3,
+        calls: 3,
+    },
+    Row {
+        words: "print a d",
+        files: &[("a", A), ("d", "procedure P is begin pragma X; end P;")],
+        text: "fault F23 file 2 line 1\n",
+        status: 3,
+        calls: 2,
+    },
 ];
 
 // Whether a run over several files is as the row says.
 pub fn is_row(alloc: Global, row: &Row) -> Result<bool, Memory> {
-    let (words, files, text, status, calls) = *row;
-    let got: Outcome = run_files(alloc, words, files, &NOTHING)?;
-    Ok(gives(&got, text, status) && got.calls == calls)
+    let got = run_files(alloc, row.words, row.files, &NOTHING)?;
+    Ok(gives(&got, row.text, row.status) && got.calls == row.calls)
 }
 
 // The number of the first row that is wrong.

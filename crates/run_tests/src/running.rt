@@ -80,7 +80,12 @@ fn words_of(alloc: Global, words: &str) -> Result<Vec<String>, Memory> {
 }
 
 // A run over a shelf, by the words that these are.
-fn run_on(alloc: Global, words: &str, shelf: MemShelf, failing: &Failing) -> Result<Outcome, Memory> {
+fn run_on(
+    alloc: Global,
+    words: &str,
+    shelf: MemShelf,
+    failing: &Failing,
+) -> Result<Outcome, Memory> {
     let words = words_of(alloc, words)?;
     run_over::<Brand>(alloc, Blank::new(1), words.as_slice(), shelf, failing)
 }

@@ -76,9 +76,7 @@ fn is_form(alloc: Global, row: &(&str, u64)) -> Result<bool, Memory> {
 
 // The number of the first row that is wrong.
 fn first_no_form(alloc: Global) -> Option<usize> {
-    FORMS
-        .iter()
-        .position(|row| is_form(alloc, row) != Ok(true))
+    FORMS.iter().position(|row| is_form(alloc, row) != Ok(true))
 }
 
 #[test]

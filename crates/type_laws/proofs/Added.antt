@@ -19,14 +19,14 @@ use Rattle.static_values.specs.Judging.{asks, ◌⊕◌}
 use Rattle.static_values.specs.Entities.{Declared, World, world, predefined, class_named}
 use Rattle.static_values.specs.Rules.{base_type, subtype_of, type_of}
 use Rattle.static_values.proofs.Firsts.{none_before, none_behind}
-use Rattle.ada_types.specs.declared.definitions.Defined.{Defined}
+use Rattle.type_definitions.specs.declared.definitions.Defined.{Defined}
 use Rattle.base_kit.specs.declared.fault.Fault.{Fault}
 use Rattle.ada_types.specs.declared.declarations.Initial.{Initial}
 use Rattle.ada_types.specs.declared.declarations.Declares.{Declares}
 use Rattle.ada_types.specs.declared.declarations.Declares.TheVariants as declares
 use Rattle.ada_types.specs.declared.types.Types.{Types}
 use Rattle.ada_types.specs.SortLists.{begun, is_packaged}
-use Rattle.ada_types.specs.Definitions.{mark_in, mark_in_faults, definition_in, definition_faults}
+use Rattle.type_definitions.specs.Definitions.{mark_in, mark_in_faults, definition_in, definition_faults}
 use Rattle.ada_types.specs.Declarations.{beside, number_of_name, number_faults, ids_faults, declared_ids, entity_by, and_first, are_new, object_by, of_mark, constant_by, subtype_by, constant_use, initial, object_type, object_type_faults, ranged_faults, range_in, range_faults, value_faults, value_in, literals_of, first_subtype, type_entities, sized_faults, size_rows, faults_of, addition_of, node_faults, node_addition, decl_faults, decl_after}
 use Rattle.type_laws.specs.Ranges.{lies_in_type, AllLie}
 use Rattle.type_laws.proofs.Lookups.{Each, first_found, insert_fits, insert_keys}

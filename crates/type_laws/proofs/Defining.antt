@@ -23,9 +23,9 @@ use Rattle.static_values.specs.declared.entity.Named.TheVariants as named
 use Rattle.static_values.specs.Judging.{asks, ◌⊕◌}
 use Rattle.static_values.specs.Entities.{Declared, World, class_of, class_of_shape, class_kept, predefined}
 use Rattle.static_values.specs.Rules.{agree, joined, is_integer, is_discrete, is_within, in_base, base_type, bounds, bounds_of_class, value_of}
-use Rattle.ada_types.specs.declared.definitions.Limits.{Limits}
-use Rattle.ada_types.specs.declared.definitions.Defined.{Defined}
-use Rattle.ada_types.specs.Definitions.{or_integer, is_null, span_index, mark_index, array_rows, span_rows, integer_rows, nothing_defined, enumeration, enumeration_faults, enumeration_in, members_of, integers, array_in, record_in, definition_in, definition_faults, bounds_faults, bounds_of, integer_faults, span_faults, range_of_faults, index_faults, index_in, array_faults, mark_in, mark_in_faults}
+use Rattle.type_definitions.specs.declared.definitions.Limits.{Limits}
+use Rattle.type_definitions.specs.declared.definitions.Defined.{Defined}
+use Rattle.type_definitions.specs.Definitions.{or_integer, is_null, span_index, mark_index, array_rows, span_rows, integer_rows, nothing_defined, enumeration, enumeration_faults, enumeration_in, members_of, integers, array_in, record_in, definition_in, definition_faults, bounds_faults, bounds_of, integer_faults, span_faults, range_of_faults, index_faults, index_in, array_faults, mark_in, mark_in_faults}
 use Rattle.ada_types.specs.Declarations.{first_subtype, literals_of}
 use Rattle.type_laws.specs.Ranges.{is_position, lies_in_type, ClassIsKept, BoundsLie, NameLies, AllLie}
 use Rattle.type_laws.proofs.Meant.{no_fault}

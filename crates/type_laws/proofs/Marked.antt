@@ -27,10 +27,10 @@ use Rattle.static_values.specs.Rules.{fits, is_unjudged, base_type, bounds_of_cl
 use Rattle.static_values.specs.Expressions.{meaning, faults, stands, marked, mark_faults, own_mark_faults, package_faults, sight_faults, is_mark}
 use Rattle.static_values.proofs.Firsts.{none_before, none_behind}
 use Rattle.static_values.proofs.Statics.{has_value as has_static_value}
-use Rattle.ada_types.specs.declared.definitions.Limits.{Limits}
+use Rattle.type_definitions.specs.declared.definitions.Limits.{Limits}
 use Rattle.ada_types.specs.declared.declarations.Constrained.{Constrained}
 use Rattle.ada_types.specs.declared.declarations.Initial.{Initial}
-use Rattle.ada_types.specs.Definitions.{bounds_faults, bounds_of, mark_in, mark_in_faults}
+use Rattle.type_definitions.specs.Definitions.{bounds_faults, bounds_of, mark_in, mark_in_faults}
 use Rattle.ada_types.specs.Declarations.{of_mark, range_faults, range_in, limits_faults, range_rows, bounds_fit, lies_within, narrowed, ranged_faults, value_faults, value_in, is_held_too_often, value_rows, has_value, object_by, constant_by, subtype_by, entity_by}
 use Rattle.type_laws.specs.Ranges.{lies_in_type, is_known, ClassIsKept, BoundsLie, NameLies, AllLie}
 use Rattle.type_laws.proofs.Meant.{no_fault}
