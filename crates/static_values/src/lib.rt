@@ -2,7 +2,7 @@
 #![tactic(auto)]
 
 mod attribute;
-mod attributes;
+pub mod attributes;
 mod components;
 mod dividing;
 mod entity;
@@ -12,9 +12,10 @@ mod judging;
 mod limits;
 mod meaning;
 mod naming;
-mod rules;
+pub mod rules;
 mod values;
 
+pub use attribute::Attribute;
 pub use entity::{BaseType, Class, Component, Entity, Index, Named, Shape, Subtype};
 pub use expressions::expression;
 pub use judging::ask;

@@ -176,7 +176,7 @@ pub fn unknown() -> Meaning
 }
 
 /// That of a static expression without a value.
-pub fn overflow(base: BaseType) -> Meaning
+pub(crate) fn overflow(base: BaseType) -> Meaning
     ensures { result ≡ spec.overflow base }
 {
     Meaning {
@@ -224,6 +224,7 @@ pub fn meant(named: Named) -> Meaning
     }
 }
 
+/// Whether what a name stands for is no expression.
 pub fn has_no_value(named: Named) -> bool
     ensures { result ≡ spec.has_no_value named }
 {
@@ -233,6 +234,7 @@ pub fn has_no_value(named: Named) -> bool
     }
 }
 
+/// Whether the operand of an operator has a type that it takes.
 pub fn takes1(operator: Operator, base: BaseType) -> bool
     ensures { result ≡ spec.takes1 operator base }
 {
@@ -271,13 +273,14 @@ fn family_takes(family: Family, left: BaseType, right: BaseType) -> bool
     }
 }
 
+/// Whether the operands of an operator have a type in common that it takes.
 pub fn takes2(operator: Operator, left: BaseType, right: BaseType) -> bool
     ensures { result ≡ spec.takes2 (spec.family_of operator) left right }
 {
     family_takes(family(operator), left, right)
 }
 
-pub fn sum(base: BaseType, left: i64, right: i64) -> Meaning
+pub(crate) fn sum(base: BaseType, left: i64, right: i64) -> Meaning
     ensures { result ≡ spec.static base (left +ℤ right) }
 {
     match left.checked_add(right) {
@@ -286,7 +289,7 @@ pub fn sum(base: BaseType, left: i64, right: i64) -> Meaning
     }
 }
 
-pub fn difference(base: BaseType, left: i64, right: i64) -> Meaning
+pub(crate) fn difference(base: BaseType, left: i64, right: i64) -> Meaning
     ensures { result ≡ spec.static base (left -ℤ right) }
 {
     match left.checked_sub(right) {
@@ -295,7 +298,7 @@ pub fn difference(base: BaseType, left: i64, right: i64) -> Meaning
     }
 }
 
-pub fn product(base: BaseType, left: i64, right: i64) -> Meaning
+pub(crate) fn product(base: BaseType, left: i64, right: i64) -> Meaning
     ensures { result ≡ spec.static base (left *ℤ right) }
 {
     match left.checked_mul(right) {
@@ -323,6 +326,7 @@ fn computed1(operator: Operator, base: BaseType, value: i64) -> Meaning
     }
 }
 
+/// What an operator with one operand means.
 pub fn unary(operator: Operator, operand: &Meaning) -> Meaning
     ensures { result ≡ spec.unary_meaning operator operand.now }
 {
@@ -335,6 +339,7 @@ pub fn unary(operator: Operator, operand: &Meaning) -> Meaning
     }
 }
 
+/// What an operator with two operands means.
 pub fn binary(operator: Operator, left: &Meaning, right: &Meaning) -> Meaning
     ensures { result ≡ spec.binary_meaning operator left.now right.now }
 {
@@ -349,7 +354,8 @@ pub fn binary(operator: Operator, left: &Meaning, right: &Meaning) -> Meaning
     }
 }
 
-fn must_be_static(usage: Use) -> bool
+/// Whether a use asks for a static value.
+pub fn must_be_static(usage: Use) -> bool
     ensures { result ≡ spec.must_be_static usage }
 {
     match usage {
@@ -367,7 +373,8 @@ fn is_outside(subtype: Subtype, value: Option<i64>) -> bool
     }
 }
 
-fn misses(usage: Use, meaning: &Meaning) -> bool
+/// Whether its value lies outside what its use allows.
+pub fn misses(usage: Use, meaning: &Meaning) -> bool
     ensures { result ≡ spec.misses usage meaning.now }
 {
     match usage {
@@ -385,7 +392,7 @@ pub fn is_not_static(usage: Use, meaning: &Meaning) -> bool
     must_be_static(usage) && meaning.value.is_none() && !meaning.overflows
 }
 
-/// Whether its value lies outside what its use allows.
+/// Whether it has no value in the base range, or one outside what its use allows.
 pub fn has_bad_value(usage: Use, meaning: &Meaning) -> bool
     ensures { result ≡ spec.has_bad_value usage meaning.now }
 {

@@ -1,0 +1,5 @@
+pub mod Formed
+pub mod Marks
+pub mod Once
+pub mod Sorts
+pub mod Trees
