@@ -1,5 +1,5 @@
 -- Each number once: ascending where they stand in order, and the same numbers.
-use Rattle.std.proofs.Common.{◌≡◌, ℕ, zero, suc, ◌+◌, ◌<◌, ◌≤◌, List, [], ◌∷◌, ◌++◌, map, length, Bool, true, false, ◌&&◌, ◌||◌, ◌==◌, nat_eq, nat_lt, nat_le, get_or, Option, Some, None, refl, ap, sym, subst, ◌∙◌, arith}
+use Rattle.std.proofs.Common.{◌≡◌, ℕ, suc, ◌≤◌, List, [], ◌∷◌, map, Bool, true, false, ◌||◌, ◌==◌, nat_eq, nat_lt, Option, Some, None, refl, ap, sym, subst, ◌∙◌, arith}
 use Rattle.std.specs.Prelude.{if◌then◌else◌, IsSorted, IsPermutation}
 use Rattle.std.specs.Ordering.{nat_cmp}
 use Rattle.std.specs.List.{list_any}
@@ -7,7 +7,7 @@ use Rattle.std.specs.List.Sorted.{IsNonDecreasingBy}
 use Rattle.std.proofs.lemmas.List.Sorted.{IsNonDecreasingBy-from_sort, list_any-IsPermutation}
 use Rattle.ada_tree.specs.declared.doc.DeclId.{DeclId}
 use Rattle.core_tree.specs.Trees.{Stmt}
-use Rattle.core_tree.specs.Marks.{in_stmt, has, rises, units_called, AreMentioned}
+use Rattle.core_tree.specs.Marks.{in_stmt, has, rises, AreMentioned}
 use Rattle.core_tree.specs.Once.{is_last, once, with_stmt, IsSame}
 use Rattle.core_tree.proofs.Called.{of_stmt}
 

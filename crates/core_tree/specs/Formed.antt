@@ -1,5 +1,5 @@
 -- Well-formed core: what holds of every unit that was checked.
-use Rattle.std.specs.Prelude.{◌≡◌, ℕ, ◌+◌, List, [], ◌∷◌, ◌++◌, map, length, take, slice_get, nat_lt, nat_eq, Bool, true, false, not, ◌&&◌, ◌||◌, ◌==◌, if◌then◌else◌, Option, Some, None}
+use Rattle.std.specs.Prelude.{◌≡◌, ℕ, ◌+◌, List, [], ◌∷◌, ◌++◌, map, length, take, slice_get, nat_lt, Bool, true, false, not, ◌&&◌, ◌||◌, ◌==◌, if◌then◌else◌, Option, Some, None}
 use Rattle.std.specs.Option.{option_map_or}
 use Rattle.std.specs.List.{list_all}
 use Rattle.term_core.specs.declared.sequent.Var.{Var}
@@ -14,7 +14,7 @@ use Rattle.core_tree.specs.declared.spec.Spec.{Spec}
 use Rattle.core_tree.specs.declared.units.UnitSpec.{UnitSpec}
 use Rattle.core_tree.specs.declared.unit.CoreUnit.{CoreUnit}
 use Rattle.core_tree.specs.Trees.{Expr, lit, truth, get, select, field, unary, binary, and_then, or_else, within, succ, pred, position, convert, call, fill, put, make, aggregate, given, Exprs, end, ◌&◌, Starts, none, start, Stmt, null, assign, call_of, branch, choose, forever, repeat, count, block, exit, give, raise, claim, Stmts, done, next, Choices, no_choice, choice, Catches, no_catch, catch, stmt_of}
-use Rattle.core_tree.specs.Marks.{Mark, in_stmt, in_stmts, calls, loops, asserts, objects, has}
+use Rattle.core_tree.specs.Marks.{in_stmt, in_stmts, calls, loops, asserts, objects, has}
 use Rattle.core_tree.specs.Sorts.{spec_of, result_of, is_typed}
 
 -- What a document tells of a unit's surroundings, beside the unit.

@@ -1,12 +1,12 @@
 -- Bodies, what they number, and whether they are well formed.
-use Rattle.std.proofs.Common.{◌≡◌, ℕ, ℤ, pos, List, [], ◌∷◌, Bool, true, false, Option, Some, None, refl}
+use Rattle.std.proofs.Common.{◌≡◌, ℕ, pos, List, [], ◌∷◌, Bool, true, false, Some, None, refl}
 use Rattle.std.specs.Prelude.{codes}
 use Rattle.term_core.specs.declared.sequent.Var.{Var}
 use Rattle.term_core.specs.declared.term.Term.{Term}
 use Rattle.term_core.specs.declared.term.Oper.TheVariants as oper
 use Rattle.term_core.specs.Terms as term
 use Rattle.term_core.specs.Sorts.{whole}
-use Rattle.core_tree.specs.Trees.{Expr, lit, get, select, binary, call, fill, put, aggregate, given, Exprs, end, ◌&◌, Starts, none, start, Stmt, null, assign, call_of, branch, choose, forever, repeat, count, block, exit, give, raise, claim, Stmts, done, next, no_choice, choice, Catches, no_catch, catch}
+use Rattle.core_tree.specs.Trees.{Expr, lit, get, binary, call, fill, put, aggregate, given, end, ◌&◌, Starts, none, start, Stmt, null, assign, branch, choose, forever, count, block, exit, raise, claim, Stmts, done, next, no_choice, choice, no_catch, catch}
 use Rattle.core_tree.specs.Marks.{in_stmt, calls, loops, asserts, objects, units_called}
 use Rattle.core_tree.specs.Formed.{Around, Here, stmt_formed, counts_from}
 

@@ -1,4 +1,4 @@
-use Rattle.std.proofs.Common.{map, subst, ◌≡◌, ◌∙◌, ap, List, ℕ}
+use Rattle.std.proofs.Common.{map, ◌∙◌, ap, List, ℕ}
 use Rattle.core_tree.proofs.Ascending.{same_once}
 use Rattle.core_tree.specs.Once.{once}
 use Rattle.std.specs.Prelude.{None}

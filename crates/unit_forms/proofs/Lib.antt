@@ -1,0 +1,4 @@
+pub mod Fusion
+pub mod Seen
+pub mod Shown
+pub mod examples

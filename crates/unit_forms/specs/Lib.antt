@@ -1,0 +1,4 @@
+pub mod Bodies
+pub mod BodyForms
+pub mod Forms
+pub mod Syntax
